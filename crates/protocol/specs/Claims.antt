@@ -1,0 +1,112 @@
+-- What the demands say of whole lists of runs and of whole schedules. The proofs are in crate competitive.
+use Prim.Native.Nat.{ℕ, _+_, _*_, _≤_}
+use mathlib.Core.Path.{_≡_}
+use mathlib.Core.Logic.{_≢_}
+use mathlib.Core.Bool.{true, _&&_, cond}
+use mathlib.Core.List.{List, [], _∷_, _++_}
+use lib.ListN.{length}
+use lib.Dec.{eqb}
+use Rattle.protocol.specs.Lists.{tail}
+use Rattle.protocol.specs.Refusals.{noRefusal, unsoundTables, impossibleAccount}
+use Rattle.protocol.specs.Board.{inRange, fetchPrice}
+use Rattle.protocol.specs.Tables.{fresh}
+use Rattle.protocol.specs.Requests.{isWrite, variableOf, newValue, requestRefusal, requestLimit}
+use Rattle.protocol.specs.Accounts.{cycles, freshAccount, cyclesOf, possible}
+use Rattle.protocol.specs.Runs.{Outcome, run, Run, State, outcomes, runs, takenRun, takenAll, spent}
+use Rattle.protocol.specs.Rival.{Rival, noCopies, Legal, costs, lastCopies}
+use Rattle.protocol.specs.Pricer.{priceRefusal, price, priceTables}
+use Rattle.protocol.specs.declared.Setup.{Setup}
+use Rattle.protocol.specs.declared.Variable.{Variable}
+use Rattle.protocol.specs.declared.Request.{Request}
+use Rattle.protocol.specs.declared.Account.{Account}
+use Rattle.protocol.specs.declared.Entry.{Entry}
+use Rattle.protocol.specs.declared.PriceAnswer.the-variants.{Accepted, Refused}
+
+-- fresh tables, and the account that the first run meets
+abbrev pub opening : Setup → Account → State
+opening s a = record { tables = fresh s; account = a }
+
+-- ---- demand 3
+
+-- a list of runs from fresh tables and account a
+pub record Claim (s : Setup) (a : Account) (rs : List Run) : Type 0 where
+  -- "the account's three cycle counts together grow by exactly that sum": what the rules charge for the requests taken, in order from fresh tables
+  pub grows : cyclesOf (runs s (opening s a) rs .account) ≡ cyclesOf a + cycles (spent s (fresh s) (takenAll s (a .requests) rs))
+  -- the requests in it grow by the number taken
+  pub counts : runs s (opening s a) rs .account .requests ≡ a .requests + length (takenAll s (a .requests) rs)
+  -- "Twice the cost of every legal schedule is at least that sum."
+  pub halves : (es : List Entry) → Legal s (noCopies s) (takenAll s (a .requests) rs) es
+      → cycles (spent s (fresh s) (takenAll s (a .requests) rs)) ≤ 2 * cycles (costs s (noCopies s) (takenAll s (a .requests) rs) es)
+
+-- the factor is exact: a list of k × (p + 1) + 2 requests, and a schedule for it
+pub record TightList (s : Setup) (k : ℕ) : Type 0 where
+  pub requests : List Request
+  pub schedule : List Entry
+  pub many : length requests ≡ k * (fetchPrice s + 1) + 2
+  -- one run from fresh tables and a fresh account takes it whole, at exactly 2p + 2pk
+  pub whole : (vs : List ℕ) → length vs ≡ length requests → run s (fresh s) freshAccount requests vs .answer .refusal ≡ noRefusal
+  pub count : (vs : List ℕ) → length vs ≡ length requests → run s (fresh s) freshAccount requests vs .answer .taken ≡ length requests
+  pub spends : (vs : List ℕ) → length vs ≡ length requests
+      → cyclesOf (run s (fresh s) freshAccount requests vs .account) ≡ 2 * fetchPrice s + 2 * (fetchPrice s * k)
+  -- the schedule is legal for it, at exactly 2p + pk
+  pub legal : Legal s (noCopies s) requests schedule
+  pub pays : cycles (costs s (noCopies s) requests schedule) ≡ 2 * fetchPrice s + fetchPrice s * k
+
+pub record Demand3 (s : Setup) : Type 0 where
+  pub bounded : (a : Account) → possible s a ≡ true → (rs : List Run) → Claim s a rs
+  pub tight : 2 ≤ s .processors → (k : ℕ) → k * (fetchPrice s + 1) + 2 ≤ requestLimit → TightList s k
+
+-- ---- demand 2: "From fresh tables a read supplies the last value written, or 0." No cache is spoken of
+
+-- the last value written to variable v by the requests, x if none was
+abbrev pub lastWritten : List Request → Variable → ℕ → ℕ
+lastWritten [] v x = x
+lastWritten (q ∷ qs) v x = lastWritten qs v (cond (isWrite q && eqb (variableOf q .0) (v .0)) (newValue q) x)
+
+-- what a request supplies or writes, where ps were taken before it
+abbrev pub expectedValue : List Request → Request → ℕ
+expectedValue ps q = cond (isWrite q) (newValue q) (lastWritten ps (variableOf q) 0)
+
+-- the values of one list of requests, where n requests count and ps were taken before; from a refused one on as they were lent
+abbrev pub expectedFrom : Setup → ℕ → List Request → List Request → List ℕ → List ℕ
+expectedFrom s n ps [] vs = vs
+expectedFrom s n ps (q ∷ qs) vs =
+    cond (eqb (requestRefusal s n q) noRefusal) (expectedValue ps q ∷ expectedFrom s (n + 1) (ps ++ q ∷ []) qs (tail vs)) vs
+
+-- of a run: as lent if 2 refuses it
+unfoldable pub expectedRun : Setup → ℕ → List Request → Run → List ℕ
+expectedRun s n ps r = cond (eqb (length (r .values)) (length (r .requests))) (expectedFrom s n ps (r .requests) (r .values)) (r .values)
+
+-- of each run of a list
+abbrev pub expectedAll : Setup → ℕ → List Request → List Run → List (List ℕ)
+expectedAll s n ps [] = []
+expectedAll s n ps (r ∷ rs) = expectedRun s n ps r ∷ expectedAll s (n + length (takenRun s n r)) (ps ++ takenRun s n r) rs
+
+-- the values that outcomes leave
+abbrev pub valuesOf : List Outcome → List (List ℕ)
+valuesOf [] = []
+valuesOf (o ∷ os) = o .values ∷ valuesOf os
+
+-- none of the outcomes is refused by 20 or 21
+abbrev pub NeverUnsound : List Outcome → Type 0
+NeverUnsound [] = Unit {0}
+NeverUnsound (o ∷ os) = (o .answer .refusal ≢ unsoundTables) × (o .answer .refusal ≢ impossibleAccount) × NeverUnsound os
+
+pub record LastValues (s : Setup) : Type 0 where
+  pub values : (a : Account) → possible s a ≡ true → (rs : List Run) → valuesOf (outcomes s (opening s a) rs) ≡ expectedAll s (a .requests) [] rs
+  pub never : (a : Account) → possible s a ≡ true → (rs : List Run) → NeverUnsound (outcomes s (opening s a) rs)
+
+-- ---- demand 2: "A rival schedule that 1, 2 and 5 let through is accepted if and only if it is legal, at its true cost."
+
+pub record PricedRight (s : Setup) (lent : Rival) (qs : List Request) (es : List Entry) : Type 0 where
+  pub accepts : Legal s (noCopies s) qs es → price s lent qs es ≡ Accepted (cycles (costs s (noCopies s) qs es))
+  pub shows : Legal s (noCopies s) qs es → priceTables s lent qs es ≡ lastCopies s (noCopies s) qs es
+  pub only : (c : ℕ) → price s lent qs es ≡ Accepted c → Legal s (noCopies s) qs es
+  pub clears : (n k : ℕ) → price s lent qs es ≡ Refused n k → priceTables s lent qs es ≡ noCopies s
+  pub truly : (c : ℕ) → price s lent qs es ≡ Accepted c → c ≡ cycles (costs s (noCopies s) qs es)
+
+-- each demand, of every setup that 1 lets through
+pub record Demands (s : Setup) : Type 0 where
+  pub last-values : LastValues s
+  pub priced-right : (lent : Rival) (qs : List Request) (es : List Entry) → priceRefusal s lent qs es ≡ noRefusal → PricedRight s lent qs es
+  pub demand3 : Demand3 s

@@ -1,0 +1,13 @@
+pub mod Lists
+pub mod Refusals
+pub mod Board
+pub mod Tables
+pub mod Soundness
+pub mod Rules
+pub mod Requests
+pub mod Accounts
+pub mod Runs
+pub mod Rival
+pub mod Pricer
+pub mod Claims
+pub mod Sessions

@@ -1,0 +1,90 @@
+-- The pricer's answer, and what it leaves in its tables (document 01, "Rival schedules" and the order of checks).
+use Prim.Native.Nat.{ℕ, zero, suc, _+_}
+use mathlib.Core.Bool.{_&&_, cond}
+use mathlib.Core.List.{List, [], _∷_}
+use lib.ListN.{length}
+use lib.Dec.{leb, eqb}
+use Rattle.protocol.specs.Refusals.{noRefusal, setupOutOfRange, wrongLength, tooMany}
+use Rattle.protocol.specs.Board.{inRange, slots}
+use Rattle.protocol.specs.Accounts.{nothing, plus, cycles}
+use Rattle.protocol.specs.Rival.{Rival, noCopies, played, left, cost, refusal, endRefusal}
+use Rattle.protocol.specs.declared.Setup.{Setup}
+use Rattle.protocol.specs.declared.Request.{Request}
+use Rattle.protocol.specs.declared.Bill.{Bill}
+use Rattle.protocol.specs.declared.Entry.{Entry}
+use Rattle.protocol.specs.declared.PriceAnswer.{PriceAnswer}
+use Rattle.protocol.specs.declared.PriceAnswer.the-variants.{Accepted, Refused}
+
+-- ---- a schedule's verdict
+
+pub data Verdict : Type 0 where
+  -- the rival's last copies, and the schedule's bill
+  accepted : Rival → Bill → Verdict
+  -- the number and the place
+  refused : ℕ → ℕ → Verdict
+
+-- at the schedule's end, its length being n
+abbrev pub ending : Rival → Bill → ℕ → ℕ → Verdict
+ending r c n zero = accepted r c
+ending r c n (suc m) = refused (suc m) n
+
+-- from the n-th entry on, where c has been spent
+abbrev pub judged : Setup → Rival → List Request → List Entry → ℕ → Bill → Verdict
+judged s r qs [] n c = ending r c n (endRefusal qs)
+judged s r qs (e ∷ es) n c =
+    cond (eqb (refusal s r qs e) noRefusal)
+    (judged s (played s r qs e) (left qs e) es (n + 1) (plus c (cost s r qs e)))
+    (refused (refusal s r qs e) n)
+
+-- "cleared at its start": from empty caches
+unfoldable pub verdict : Setup → List Request → List Entry → Verdict
+verdict s qs es = judged s (noCopies s) qs es 0 nothing
+
+-- ---- the pricer checks 1, 2, 5
+
+-- "over 1,000,000 requests or 4,000,000 entries"
+abbrev pub priceRequestLimit : ℕ
+priceRequestLimit = 1000000
+
+abbrev pub priceEntryLimit : ℕ
+priceEntryLimit = 4000000
+
+unfoldable pub priceRefusal : Setup → Rival → List Request → List Entry → ℕ
+priceRefusal s lent qs es =
+    cond (inRange s)
+    (cond (eqb (length (lent .blocks)) (slots s) && eqb (length (lent .held)) (slots s) && eqb (length (lent .marks)) (slots s))
+    (cond (leb (length qs) priceRequestLimit && leb (length es) priceEntryLimit) noRefusal tooMany) wrongLength) setupOutOfRange
+
+-- ---- the answer: a cost, or a number and a place ("and no cost")
+
+abbrev pub answerTo : Verdict → PriceAnswer
+answerTo (accepted r c) = Accepted (cycles c)
+answerTo (refused n k) = Refused n k
+
+unfoldable pub price : Setup → Rival → List Request → List Entry → PriceAnswer
+price s lent qs es = cond (eqb (priceRefusal s lent qs es) noRefusal) (answerTo (verdict s qs es)) (Refused (priceRefusal s lent qs es) 0)
+
+-- ---- the lent tables after it
+
+-- the rival's last copies, or zeros
+abbrev pub copiesAfter : Setup → Verdict → Rival
+copiesAfter s (accepted r c) = r
+copiesAfter s (refused n k) = noCopies s
+
+-- "A refusal by 1, 2, 5 … changes no buffer"; "Any later refusal of the pricer zeroes its tables"
+unfoldable pub priceTables : Setup → Rival → List Request → List Entry → Rival
+priceTables s lent qs es = cond (eqb (priceRefusal s lent qs es) noRefusal) (copiesAfter s (verdict s qs es)) lent
+
+-- ---- the paper's number, place and cost for each case of the answer
+
+abbrev pub numberOf : PriceAnswer → ℕ
+numberOf (Accepted c) = noRefusal
+numberOf (Refused n k) = n
+
+abbrev pub placeOf : PriceAnswer → ℕ
+placeOf (Accepted c) = 0
+placeOf (Refused n k) = k
+
+abbrev pub costOf : PriceAnswer → ℕ
+costOf (Accepted c) = c
+costOf (Refused n k) = 0

@@ -1,0 +1,78 @@
+-- The refusal numbers (document 01, "Refused for what came in" and "Refused for how things stand").
+use Prim.Native.Nat.{ℕ}
+
+-- where no condition is met, nothing is refused
+abbrev pub noRefusal : ℕ
+noRefusal = 0
+
+-- 1: a setup number out of range
+abbrev pub setupOutOfRange : ℕ
+setupOutOfRange = 1
+
+-- 2: a lent buffer's length isn't the one the setup, or the list, requires
+abbrev pub wrongLength : ℕ
+wrongLength = 2
+
+-- 3: processor not below N
+abbrev pub noSuchProcessor : ℕ
+noSuchProcessor = 3
+
+-- 4: variable not below M × p
+abbrev pub noSuchVariable : ℕ
+noSuchVariable = 4
+
+-- 5: to the pricer: over 1,000,000 requests or 4,000,000 entries
+abbrev pub tooMany : ℕ
+tooMany = 5
+
+-- 6: trace line malformed
+abbrev pub malformedLine : ℕ
+malformedLine = 6
+
+-- 7: trace label a digit above 2
+abbrev pub unknownLabel : ℕ
+unknownLabel = 7
+
+-- 8: entry's block not below M
+abbrev pub noSuchBlock : ℕ
+noSuchBlock = 8
+
+-- 9: a read completed by broadcast
+abbrev pub readByBroadcast : ℕ
+readByBroadcast = 9
+
+-- 20: tables not sound
+abbrev pub unsoundTables : ℕ
+unsoundTables = 20
+
+-- 21: account impossible
+abbrev pub impossibleAccount : ℕ
+impossibleAccount = 21
+
+-- 22: account already at 1,000,000 requests or more
+abbrev pub accountFull : ℕ
+accountFull = 22
+
+-- 23: fetch into a line that isn't empty
+abbrev pub lineInUse : ℕ
+lineInUse = 23
+
+-- 24: block not held (drop, write back)
+abbrev pub blockNotHeld : ℕ
+blockNotHeld = 24
+
+-- 25: drop of a marked block
+abbrev pub dropOfMarked : ℕ
+dropOfMarked = 25
+
+-- 26: completion with no request left
+abbrev pub noRequestLeft : ℕ
+noRequestLeft = 26
+
+-- 27: completion, block not held
+abbrev pub completionNotHeld : ℕ
+completionNotHeld = 27
+
+-- 28: schedule ends with requests left
+abbrev pub requestsLeft : ℕ
+requestsLeft = 28

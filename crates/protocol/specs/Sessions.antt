@@ -1,0 +1,1244 @@
+-- The twelve sessions of document 01 and the cases beside them, as one table. proofs/Sessions proves that every row passes.
+-- A row compares every entry of every table, the account, the answer and the values.
+use Prim.Native.Nat.{ℕ, _+_, _*_}
+use mathlib.Core.Bool.{Bool, true, false, _&&_, not, cond}
+use mathlib.Core.List.{List, [], _∷_}
+use lib.ListN.{length, replicate, set}
+use lib.Seq.{sets}
+use lib.Dec.{eqb}
+use Rattle.protocol.specs.Board.{slots}
+use Rattle.protocol.specs.Tables.{Tables, tables, fresh}
+use Rattle.protocol.specs.Accounts.{freshAccount, entered}
+use Rattle.protocol.specs.Runs.{startRefusal, started, looked, Outcome, run}
+use Rattle.protocol.specs.Rival.{Rival, rival}
+use Rattle.protocol.specs.Pricer.{price, priceTables, numberOf, placeOf, costOf}
+use Rattle.protocol.specs.declared.Setup.{Setup}
+use Rattle.protocol.specs.declared.Request.{Request}
+use Rattle.protocol.specs.declared.Operation.the-variants.{Read, Write}
+use Rattle.protocol.specs.declared.Bill.{Bill}
+use Rattle.protocol.specs.declared.Account.{Account}
+use Rattle.protocol.specs.declared.RunAnswer.{RunAnswer}
+use Rattle.protocol.specs.declared.Entry.{Entry}
+use Rattle.protocol.specs.declared.Entry.the-variants.{Fetch, WriteBack, Drop, Complete, CompleteByBroadcast}
+
+-- ---- short names for the rows
+
+-- N, L, p, M
+abbrev pub board : ℕ → ℕ → ℕ → ℕ → Setup
+board n l p m = record { processors = n; lines = l; words = p; blocks = m }
+
+-- "N 4, L 8, M 64, p 4 unless said"
+abbrev pub usual : Setup
+usual = board 4 8 4 64
+
+abbrev pub read : ℕ → ℕ → Request
+read i v = record { processor = i; operation = Read (record { 0 = v }) }
+
+abbrev pub write : ℕ → ℕ → ℕ → Request
+write i v x = record { processor = i; operation = Write (record { 0 = v }) x }
+
+abbrev pub fetch : ℕ → ℕ → Entry
+fetch i b = Fetch i (record { 0 = b })
+
+abbrev pub writeBack : ℕ → ℕ → Entry
+writeBack i b = WriteBack i (record { 0 = b })
+
+abbrev pub drop : ℕ → ℕ → Entry
+drop i b = Drop i (record { 0 = b })
+
+-- requests, fetch, write-back and update cycles
+abbrev pub account : ℕ → ℕ → ℕ → ℕ → Account
+account n f g u = record { requests = n; fetch = f; «write_back» = g; update = u }
+
+-- fetch, write-back and update cycles
+abbrev pub cost : ℕ → ℕ → ℕ → Bill
+cost f g u = record { fetch = f; «write_back» = g; update = u }
+
+-- the count taken, the refusal and the place
+abbrev pub answered : ℕ → ℕ → ℕ → RunAnswer
+answered n r k = record { taken = n; refusal = r; place = k }
+
+-- ---- what the tables hold
+
+-- a line that is not all 0: its slot, block, counter, mark and words
+pub record Copy : Type 0 where
+  pub slot : ℕ
+  pub block : ℕ
+  pub counter : ℕ
+  pub mark : ℕ
+  pub words : List ℕ
+
+abbrev pub copy : ℕ → ℕ → ℕ → ℕ → List ℕ → Copy
+copy k b c m w = record { slot = k; block = b; counter = c; mark = m; words = w }
+
+-- a word of main memory that is not 0
+pub record Cell : Type 0 where
+  pub variable : ℕ
+  pub value : ℕ
+
+abbrev pub cell : ℕ → ℕ → Cell
+cell v x = record { variable = v; value = x }
+
+-- the tables with these lines and cells, and 0 everywhere else
+abbrev pub withCopies : Setup → Tables → List Copy → Tables
+withCopies s t [] = t
+withCopies s t (c ∷ cs) =
+    withCopies s
+    (tables (set (t .blocks) (c .slot) (c .block)) (set (t .counters) (c .slot) (c .counter)) (set (t .marks) (c .slot) (c .mark))
+    (sets (t .words) (c .slot * s .words) (c .words)) (t .memory)) cs
+
+abbrev pub withCells : Tables → List Cell → Tables
+withCells t [] = t
+withCells t (c ∷ cs) = withCells (tables (t .blocks) (t .counters) (t .marks) (t .words) (set (t .memory) (c .variable) (c .value))) cs
+
+unfoldable pub holding : Setup → List Copy → List Cell → Tables
+holding s cs ms = withCells (withCopies s (fresh s) cs) ms
+
+-- ---- comparing
+
+abbrev pub sameList : List ℕ → List ℕ → Bool
+sameList [] [] = true
+sameList [] (y ∷ ys) = false
+sameList (x ∷ xs) [] = false
+sameList (x ∷ xs) (y ∷ ys) = eqb x y && sameList xs ys
+
+abbrev pub sameTables : Tables → Tables → Bool
+sameTables t u =
+    sameList (t .blocks) (u .blocks) && sameList (t .counters) (u .counters) && sameList (t .marks) (u .marks)
+    && sameList (t .words) (u .words) && sameList (t .memory) (u .memory)
+
+abbrev pub sameAccount : Account → Account → Bool
+sameAccount a c = eqb (a .requests) (c .requests) && eqb (a .fetch) (c .fetch) && eqb (a .«write_back») (c .«write_back») && eqb (a .update) (c .update)
+
+abbrev pub sameAnswer : RunAnswer → RunAnswer → Bool
+sameAnswer a c = eqb (a .taken) (c .taken) && eqb (a .refusal) (c .refusal) && eqb (a .place) (c .place)
+
+-- ---- the kinds of rows
+
+-- a run after other requests
+pub record Session : Type 0 where
+  pub setup : Setup
+  -- taken first, from fresh tables
+  pub before : List Request
+  -- the account that the run meets
+  pub account : Account
+  pub requests : List Request
+  -- what it leaves in a list of as many nines
+  pub values : List ℕ
+  pub answer : RunAnswer
+  -- what it adds to the account, besides the requests taken
+  pub cost : Bill
+  -- whether any table changes
+  pub changes : Bool
+  -- every line and every word of memory that is then not 0
+  pub lines : List Copy
+  pub memory : List Cell
+
+-- a run of one request on buffers as they are lent, a start, and a look at block `block` of processor `processor`
+pub record Lent : Type 0 where
+  pub setup : Setup
+  pub tables : Tables
+  pub account : Account
+  pub values : List ℕ
+  pub runRefusal : ℕ
+  pub startRefusal : ℕ
+  pub processor : ℕ
+  pub block : ℕ
+  pub seen : List ℕ
+
+-- a schedule, priced on tables of sevens; then the three tables
+pub record Quote : Type 0 where
+  pub setup : Setup
+  pub requests : List Request
+  pub entries : List Entry
+  pub number : ℕ
+  pub place : ℕ
+  pub cost : ℕ
+  pub blocks : List ℕ
+  pub held : List ℕ
+  pub marks : List ℕ
+
+pub data Row : Type 0 where
+  session : Session → Row
+  -- tables that an empty run meets, and its refusal
+  tabled : Setup → Tables → ℕ → Row
+  lent : Lent → Row
+  quote : Quote → Row
+
+-- ---- when a row passes
+
+unfoldable pub sessionPasses : Session → Bool
+sessionPasses w =
+    let s : Setup = w .setup in
+    let t : Tables = run s (fresh s) freshAccount (w .before) (replicate (length (w .before)) 9) .tables in
+    let o : Outcome = run s t (w .account) (w .requests) (replicate (length (w .requests)) 9) in
+    sameAnswer (o .answer) (w .answer) && sameList (o .values) (w .values)
+    && sameAccount (o .account) (entered (w .account) (w .answer .taken) (w .cost))
+    && sameTables (o .tables) (holding s (w .lines) (w .memory))
+    && cond (w .changes) (not (sameTables (o .tables) t)) (sameTables (o .tables) t)
+
+-- an empty list: nothing changes, 0 taken
+unfoldable pub tabledPasses : Setup → Tables → ℕ → Bool
+tabledPasses s t n =
+    let o : Outcome = run s t freshAccount [] [] in
+    sameAnswer (o .answer) (answered 0 n 0) && sameTables (o .tables) t && sameAccount (o .account) freshAccount && sameList (o .values) []
+
+unfoldable pub lentPasses : Lent → Bool
+lentPasses w =
+    let s : Setup = w .setup in
+    let t : Tables = w .tables in
+    let o : Outcome = run s t (w .account) (read 1 1 ∷ []) (w .values) in
+    eqb (o .answer .refusal) (w .runRefusal)
+    && cond (eqb (w .runRefusal) 0) true (sameTables (o .tables) t && sameAccount (o .account) (w .account) && sameList (o .values) (w .values) && sameAnswer (o .answer) (answered 0 (w .runRefusal) 0))
+    && eqb (startRefusal s t) (w .startRefusal) && sameTables (started s t) (cond (eqb (w .startRefusal) 0) (fresh s) t)
+    && sameList (looked s (t .blocks) (t .counters) (t .words) (w .processor) (record { 0 = w .block })) (w .seen)
+
+unfoldable pub sevens : Setup → Rival
+sevens s = rival (replicate (slots s) 7) (replicate (slots s) 7) (replicate (slots s) 7)
+
+unfoldable pub quotePasses : Quote → Bool
+quotePasses w =
+    let r : Rival = priceTables (w .setup) (sevens (w .setup)) (w .requests) (w .entries) in
+    let a = price (w .setup) (sevens (w .setup)) (w .requests) (w .entries) in
+    eqb (numberOf a) (w .number) && eqb (placeOf a) (w .place) && eqb (costOf a) (w .cost)
+    && sameList (r .blocks) (w .blocks) && sameList (r .held) (w .held) && sameList (r .marks) (w .marks)
+
+abbrev pub passes : Row → Bool
+passes (session w) = sessionPasses w
+passes (tabled s t n) = tabledPasses s t n
+passes (lent w) = lentPasses w
+passes (quote w) = quotePasses w
+
+abbrev pub everyRow : List Row → Bool
+everyRow [] = true
+everyRow (w ∷ ws) = passes w && everyRow ws
+
+-- ---- the table
+
+unfoldable pub rows : List Row
+rows =
+    -- S1
+    session (record {
+      setup = usual;
+      before = [];
+      account = account 0 0 0 0;
+      requests = read 0 0 ∷ [];
+      values = 0 ∷ [];
+      answer = answered 1 0 0;
+      cost = cost 4 0 0;
+      changes = true;
+      lines = copy 0 0 4 0 (0 ∷ 0 ∷ 0 ∷ 0 ∷ []) ∷ [];
+      memory = [];
+    })
+    -- S2
+    ∷ session (record {
+      setup = usual;
+      before = read 0 0 ∷ [];
+      account = account 1 0 0 0;
+      requests = read 0 0 ∷ [];
+      values = 0 ∷ [];
+      answer = answered 1 0 0;
+      cost = cost 0 0 0;
+      changes = false;
+      lines = copy 0 0 4 0 (0 ∷ 0 ∷ 0 ∷ 0 ∷ []) ∷ [];
+      memory = [];
+    })
+    -- S3
+    ∷ session (record {
+      setup = usual;
+      before = read 0 0 ∷ [];
+      account = account 1 0 0 0;
+      requests = write 0 0 7 ∷ [];
+      values = 7 ∷ [];
+      answer = answered 1 0 0;
+      cost = cost 0 0 0;
+      changes = true;
+      lines = copy 0 0 4 1 (7 ∷ 0 ∷ 0 ∷ 0 ∷ []) ∷ [];
+      memory = [];
+    })
+    -- S4
+    ∷ session (record {
+      setup = usual;
+      before = read 0 0 ∷ write 0 0 7 ∷ [];
+      account = account 2 0 0 0;
+      requests = read 1 0 ∷ [];
+      values = 7 ∷ [];
+      answer = answered 1 0 0;
+      cost = cost 4 0 0;
+      changes = true;
+      lines = copy 0 0 4 0 (7 ∷ 0 ∷ 0 ∷ 0 ∷ []) ∷ copy 8 0 4 0 (7 ∷ 0 ∷ 0 ∷ 0 ∷ []) ∷ [];
+      memory = cell 0 7 ∷ [];
+    })
+    -- S5, write 1 of 4
+    ∷ session (record {
+      setup = usual;
+      before = read 0 0 ∷ write 0 0 7 ∷ read 1 0 ∷ [];
+      account = account 3 0 0 0;
+      requests = write 0 1 11 ∷ [];
+      values = 11 ∷ [];
+      answer = answered 1 0 0;
+      cost = cost 0 0 1;
+      changes = true;
+      lines = copy 0 0 4 0 (7 ∷ 11 ∷ 0 ∷ 0 ∷ []) ∷ copy 8 0 3 0 (7 ∷ 11 ∷ 0 ∷ 0 ∷ []) ∷ [];
+      memory = cell 0 7 ∷ cell 1 11 ∷ [];
+    })
+    -- S5, write 2 of 4
+    ∷ session (record {
+      setup = usual;
+      before = read 0 0 ∷ write 0 0 7 ∷ read 1 0 ∷ write 0 1 11 ∷ [];
+      account = account 4 0 0 0;
+      requests = write 0 2 12 ∷ [];
+      values = 12 ∷ [];
+      answer = answered 1 0 0;
+      cost = cost 0 0 1;
+      changes = true;
+      lines = copy 0 0 4 0 (7 ∷ 11 ∷ 12 ∷ 0 ∷ []) ∷ copy 8 0 2 0 (7 ∷ 11 ∷ 12 ∷ 0 ∷ []) ∷ [];
+      memory = cell 0 7 ∷ cell 1 11 ∷ cell 2 12 ∷ [];
+    })
+    -- S5, write 3 of 4
+    ∷ session (record {
+      setup = usual;
+      before = read 0 0 ∷ write 0 0 7 ∷ read 1 0 ∷ write 0 1 11 ∷ write 0 2 12 ∷ [];
+      account = account 5 0 0 0;
+      requests = write 0 3 13 ∷ [];
+      values = 13 ∷ [];
+      answer = answered 1 0 0;
+      cost = cost 0 0 1;
+      changes = true;
+      lines = copy 0 0 4 0 (7 ∷ 11 ∷ 12 ∷ 13 ∷ []) ∷ copy 8 0 1 0 (7 ∷ 11 ∷ 12 ∷ 13 ∷ []) ∷ [];
+      memory = cell 0 7 ∷ cell 1 11 ∷ cell 2 12 ∷ cell 3 13 ∷ [];
+    })
+    -- S5, write 4 of 4 empties 1's line
+    ∷ session (record {
+      setup = usual;
+      before = read 0 0 ∷ write 0 0 7 ∷ read 1 0 ∷ write 0 1 11 ∷ write 0 2 12 ∷ write 0 3 13 ∷ [];
+      account = account 6 0 0 0;
+      requests = write 0 1 14 ∷ [];
+      values = 14 ∷ [];
+      answer = answered 1 0 0;
+      cost = cost 0 0 1;
+      changes = true;
+      lines = copy 0 0 4 0 (7 ∷ 14 ∷ 12 ∷ 13 ∷ []) ∷ [];
+      memory = cell 0 7 ∷ cell 1 14 ∷ cell 2 12 ∷ cell 3 13 ∷ [];
+    })
+    -- S5, the four in one run: 4 cycles
+    ∷ session (record {
+      setup = usual;
+      before = read 0 0 ∷ write 0 0 7 ∷ read 1 0 ∷ [];
+      account = account 3 0 0 0;
+      requests = write 0 1 11 ∷ write 0 2 12 ∷ write 0 3 13 ∷ write 0 1 14 ∷ [];
+      values = 11 ∷ 12 ∷ 13 ∷ 14 ∷ [];
+      answer = answered 4 0 0;
+      cost = cost 0 0 4;
+      changes = true;
+      lines = copy 0 0 4 0 (7 ∷ 14 ∷ 12 ∷ 13 ∷ []) ∷ [];
+      memory = cell 0 7 ∷ cell 1 14 ∷ cell 2 12 ∷ cell 3 13 ∷ [];
+    })
+    -- S6
+    ∷ session (record {
+      setup = usual;
+      before = read 0 0 ∷ write 0 0 7 ∷ read 1 0 ∷ write 0 1 11 ∷ write 0 2 12 ∷ write 0 3 13 ∷ write 0 1 14 ∷ [];
+      account = account 7 0 0 0;
+      requests = write 0 2 15 ∷ [];
+      values = 15 ∷ [];
+      answer = answered 1 0 0;
+      cost = cost 0 0 0;
+      changes = true;
+      lines = copy 0 0 4 1 (7 ∷ 14 ∷ 15 ∷ 13 ∷ []) ∷ [];
+      memory = cell 0 7 ∷ cell 1 14 ∷ cell 2 12 ∷ cell 3 13 ∷ [];
+    })
+    -- S7
+    ∷ session (record {
+      setup = usual;
+      before = read 0 0 ∷ write 0 0 7 ∷ [];
+      account = account 2 0 0 0;
+      requests = read 0 32 ∷ [];
+      values = 0 ∷ [];
+      answer = answered 1 0 0;
+      cost = cost 4 4 0;
+      changes = true;
+      lines = copy 0 8 4 0 (0 ∷ 0 ∷ 0 ∷ 0 ∷ []) ∷ [];
+      memory = cell 0 7 ∷ [];
+    })
+    -- S8
+    ∷ session (record {
+      setup = usual;
+      before = read 0 0 ∷ [];
+      account = account 1 0 0 0;
+      requests = read 0 32 ∷ [];
+      values = 0 ∷ [];
+      answer = answered 1 0 0;
+      cost = cost 4 0 0;
+      changes = true;
+      lines = copy 0 8 4 0 (0 ∷ 0 ∷ 0 ∷ 0 ∷ []) ∷ [];
+      memory = [];
+    })
+    -- S9, on block 9 in line 1
+    ∷ session (record {
+      setup = usual;
+      before = read 0 39 ∷ read 1 39 ∷ read 2 39 ∷ [];
+      account = account 3 0 0 0;
+      requests = write 1 38 6 ∷ [];
+      values = 6 ∷ [];
+      answer = answered 1 0 0;
+      cost = cost 0 0 1;
+      changes = true;
+      lines = copy 1 9 3 0 (0 ∷ 0 ∷ 6 ∷ 0 ∷ []) ∷ copy 9 9 4 0 (0 ∷ 0 ∷ 6 ∷ 0 ∷ []) ∷ copy 17 9 4 0 (0 ∷ 0 ∷ 6 ∷ 0 ∷ []) ∷ [];
+      memory = cell 38 6 ∷ [];
+    })
+    -- S10, processors 1 and 3 on block 13
+    ∷ session (record {
+      setup = board 4 8 1 64;
+      before = read 1 13 ∷ read 3 13 ∷ [];
+      account = account 2 0 0 0;
+      requests = write 3 13 6 ∷ [];
+      values = 6 ∷ [];
+      answer = answered 1 0 0;
+      cost = cost 0 0 1;
+      changes = true;
+      lines = copy 29 13 1 0 (6 ∷ []) ∷ [];
+      memory = cell 13 6 ∷ [];
+    })
+    -- S11, on tables in use
+    ∷ session (record {
+      setup = usual;
+      before = write 0 37 6 ∷ read 2 37 ∷ write 3 10 5 ∷ [];
+      account = account 5 8 0 1;
+      requests = [];
+      values = [];
+      answer = answered 0 0 0;
+      cost = cost 0 0 0;
+      changes = false;
+      lines = copy 1 9 4 0 (0 ∷ 6 ∷ 0 ∷ 0 ∷ []) ∷ copy 17 9 4 0 (0 ∷ 6 ∷ 0 ∷ 0 ∷ []) ∷ copy 26 2 4 1 (0 ∷ 0 ∷ 5 ∷ 0 ∷ []) ∷ [];
+      memory = cell 37 6 ∷ [];
+    })
+    -- S12 at 999,999: one more is taken
+    ∷ session (record {
+      setup = usual;
+      before = [];
+      account = account 999999 3999996 3999996 999999;
+      requests = read 3 39 ∷ read 2 39 ∷ [];
+      values = 0 ∷ 9 ∷ [];
+      answer = answered 1 22 1;
+      cost = cost 4 0 0;
+      changes = true;
+      lines = copy 25 9 4 0 (0 ∷ 0 ∷ 0 ∷ 0 ∷ []) ∷ [];
+      memory = [];
+    })
+    -- S12 at 1,000,000
+    ∷ session (record {
+      setup = usual;
+      before = [];
+      account = account 1000000 4000000 0 0;
+      requests = read 3 39 ∷ [];
+      values = 9 ∷ [];
+      answer = answered 0 22 0;
+      cost = cost 0 0 0;
+      changes = false;
+      lines = [];
+      memory = [];
+    })
+    -- variable 255 is taken
+    ∷ session (record {
+      setup = usual;
+      before = [];
+      account = account 0 0 0 0;
+      requests = read 2 255 ∷ [];
+      values = 0 ∷ [];
+      answer = answered 1 0 0;
+      cost = cost 4 0 0;
+      changes = true;
+      lines = copy 23 63 4 0 (0 ∷ 0 ∷ 0 ∷ 0 ∷ []) ∷ [];
+      memory = [];
+    })
+    -- variable 256 gives 4, and stops the run
+    ∷ session (record {
+      setup = usual;
+      before = read 2 39 ∷ [];
+      account = account 1 0 0 0;
+      requests = read 2 38 ∷ read 2 256 ∷ read 2 38 ∷ [];
+      values = 0 ∷ 9 ∷ 9 ∷ [];
+      answer = answered 1 4 1;
+      cost = cost 0 0 0;
+      changes = false;
+      lines = copy 17 9 4 0 (0 ∷ 0 ∷ 0 ∷ 0 ∷ []) ∷ [];
+      memory = [];
+    })
+    -- N 8 is taken
+    ∷ session (record {
+      setup = board 8 8 4 64;
+      before = [];
+      account = account 0 0 0 0;
+      requests = write 7 39 5 ∷ [];
+      values = 5 ∷ [];
+      answer = answered 1 0 0;
+      cost = cost 4 0 0;
+      changes = true;
+      lines = copy 57 9 4 1 (0 ∷ 0 ∷ 0 ∷ 5 ∷ []) ∷ [];
+      memory = [];
+    })
+    -- N 9 gives 1
+    ∷ session (record {
+      setup = board 9 8 4 64;
+      before = [];
+      account = account 0 0 0 0;
+      requests = write 7 39 5 ∷ [];
+      values = 9 ∷ [];
+      answer = answered 0 1 0;
+      cost = cost 0 0 0;
+      changes = false;
+      lines = [];
+      memory = [];
+    })
+    -- 3 before 4
+    ∷ session (record {
+      setup = usual;
+      before = [];
+      account = account 0 0 0 0;
+      requests = write 1 39 5 ∷ write 4 256 1 ∷ [];
+      values = 5 ∷ 9 ∷ [];
+      answer = answered 1 3 1;
+      cost = cost 4 0 0;
+      changes = true;
+      lines = copy 9 9 4 1 (0 ∷ 0 ∷ 0 ∷ 5 ∷ []) ∷ [];
+      memory = [];
+    })
+    -- 3 before 22
+    ∷ session (record {
+      setup = usual;
+      before = [];
+      account = account 1000000 0 0 0;
+      requests = read 4 39 ∷ [];
+      values = 9 ∷ [];
+      answer = answered 0 3 0;
+      cost = cost 0 0 0;
+      changes = false;
+      lines = [];
+      memory = [];
+    })
+    -- 4 before 22
+    ∷ session (record {
+      setup = usual;
+      before = [];
+      account = account 1000000 0 0 0;
+      requests = read 1 256 ∷ [];
+      values = 9 ∷ [];
+      answer = answered 0 4 0;
+      cost = cost 0 0 0;
+      changes = false;
+      lines = [];
+      memory = [];
+    })
+    -- 22 only with a request
+    ∷ session (record {
+      setup = usual;
+      before = [];
+      account = account 2000000 0 0 0;
+      requests = [];
+      values = [];
+      answer = answered 0 0 0;
+      cost = cost 0 0 0;
+      changes = false;
+      lines = [];
+      memory = [];
+    })
+    -- 21: fetch cycles over p × requests
+    ∷ session (record {
+      setup = usual;
+      before = [];
+      account = account 2 9 8 2;
+      requests = read 1 39 ∷ [];
+      values = 9 ∷ [];
+      answer = answered 0 21 0;
+      cost = cost 0 0 0;
+      changes = false;
+      lines = [];
+      memory = [];
+    })
+    -- 21: write-back cycles over p × requests
+    ∷ session (record {
+      setup = usual;
+      before = [];
+      account = account 2 8 9 2;
+      requests = read 1 39 ∷ [];
+      values = 9 ∷ [];
+      answer = answered 0 21 0;
+      cost = cost 0 0 0;
+      changes = false;
+      lines = [];
+      memory = [];
+    })
+    -- 21: update cycles over requests
+    ∷ session (record {
+      setup = usual;
+      before = [];
+      account = account 2 8 8 3;
+      requests = read 1 39 ∷ [];
+      values = 9 ∷ [];
+      answer = answered 0 21 0;
+      cost = cost 0 0 0;
+      changes = false;
+      lines = [];
+      memory = [];
+    })
+    -- an account at its limits is possible
+    ∷ session (record {
+      setup = usual;
+      before = [];
+      account = account 2 8 8 2;
+      requests = read 1 39 ∷ [];
+      values = 0 ∷ [];
+      answer = answered 1 0 0;
+      cost = cost 4 0 0;
+      changes = true;
+      lines = copy 9 9 4 0 (0 ∷ 0 ∷ 0 ∷ 0 ∷ []) ∷ [];
+      memory = [];
+    })
+    -- mistake 1: one payer, the lowest-numbered other holder
+    ∷ session (record {
+      setup = usual;
+      before = read 1 39 ∷ read 2 39 ∷ read 3 39 ∷ write 3 37 4 ∷ [];
+      account = account 4 0 0 0;
+      requests = write 1 38 6 ∷ [];
+      values = 6 ∷ [];
+      answer = answered 1 0 0;
+      cost = cost 0 0 1;
+      changes = true;
+      lines = copy 9 9 4 0 (0 ∷ 4 ∷ 6 ∷ 0 ∷ []) ∷ copy 17 9 3 0 (0 ∷ 4 ∷ 6 ∷ 0 ∷ []) ∷ copy 25 9 4 0 (0 ∷ 4 ∷ 6 ∷ 0 ∷ []) ∷ [];
+      memory = cell 37 4 ∷ cell 38 6 ∷ [];
+    })
+    -- mistake 2: an unmarked block is not written back
+    ∷ session (record {
+      setup = usual;
+      before = write 0 37 6 ∷ read 1 37 ∷ [];
+      account = account 2 0 0 0;
+      requests = read 1 5 ∷ [];
+      values = 0 ∷ [];
+      answer = answered 1 0 0;
+      cost = cost 4 0 0;
+      changes = true;
+      lines = copy 1 9 4 0 (0 ∷ 6 ∷ 0 ∷ 0 ∷ []) ∷ copy 9 1 4 0 (0 ∷ 0 ∷ 0 ∷ 0 ∷ []) ∷ [];
+      memory = cell 37 6 ∷ [];
+    })
+    -- mistake 3: the old owner is left unmarked, its counter stays
+    ∷ session (record {
+      setup = usual;
+      before = write 3 39 5 ∷ [];
+      account = account 1 0 0 0;
+      requests = read 2 39 ∷ [];
+      values = 5 ∷ [];
+      answer = answered 1 0 0;
+      cost = cost 4 0 0;
+      changes = true;
+      lines = copy 17 9 4 0 (0 ∷ 0 ∷ 0 ∷ 5 ∷ []) ∷ copy 25 9 4 0 (0 ∷ 0 ∷ 0 ∷ 5 ∷ []) ∷ [];
+      memory = cell 39 5 ∷ [];
+    })
+    -- mistake 4: a lone holder's counter is refilled, not lowered
+    ∷ session (record {
+      setup = usual;
+      before = read 1 37 ∷ read 2 37 ∷ write 2 37 6 ∷ read 2 5 ∷ [];
+      account = account 4 0 0 0;
+      requests = write 1 38 3 ∷ [];
+      values = 3 ∷ [];
+      answer = answered 1 0 0;
+      cost = cost 0 0 0;
+      changes = true;
+      lines = copy 9 9 4 1 (0 ∷ 6 ∷ 3 ∷ 0 ∷ []) ∷ copy 17 1 4 0 (0 ∷ 0 ∷ 0 ∷ 0 ∷ []) ∷ [];
+      memory = cell 37 6 ∷ [];
+    })
+    -- mistake 5: a read hit raises no counter
+    ∷ session (record {
+      setup = usual;
+      before = read 1 37 ∷ read 2 37 ∷ write 2 37 6 ∷ [];
+      account = account 3 0 0 0;
+      requests = read 1 37 ∷ [];
+      values = 6 ∷ [];
+      answer = answered 1 0 0;
+      cost = cost 0 0 0;
+      changes = false;
+      lines = copy 9 9 3 0 (0 ∷ 6 ∷ 0 ∷ 0 ∷ []) ∷ copy 17 9 4 0 (0 ∷ 6 ∷ 0 ∷ 0 ∷ []) ∷ [];
+      memory = cell 37 6 ∷ [];
+    })
+    -- a write refills the writer's counter, and the payer is another
+    ∷ session (record {
+      setup = usual;
+      before = read 1 37 ∷ read 2 37 ∷ write 2 37 6 ∷ [];
+      account = account 3 0 0 0;
+      requests = write 1 38 3 ∷ [];
+      values = 3 ∷ [];
+      answer = answered 1 0 0;
+      cost = cost 0 0 1;
+      changes = true;
+      lines = copy 9 9 4 0 (0 ∷ 6 ∷ 3 ∷ 0 ∷ []) ∷ copy 17 9 3 0 (0 ∷ 6 ∷ 3 ∷ 0 ∷ []) ∷ [];
+      memory = cell 37 6 ∷ cell 38 3 ∷ [];
+    })
+    -- a write miss on a block that another has marked
+    ∷ session (record {
+      setup = usual;
+      before = write 1 37 6 ∷ [];
+      account = account 1 0 0 0;
+      requests = write 3 39 2 ∷ [];
+      values = 2 ∷ [];
+      answer = answered 1 0 0;
+      cost = cost 4 0 1;
+      changes = true;
+      lines = copy 9 9 3 0 (0 ∷ 6 ∷ 0 ∷ 2 ∷ []) ∷ copy 25 9 4 0 (0 ∷ 6 ∷ 0 ∷ 2 ∷ []) ∷ [];
+      memory = cell 37 6 ∷ cell 39 2 ∷ [];
+    })
+    -- a write miss on the line of a marked block
+    ∷ session (record {
+      setup = usual;
+      before = write 2 37 6 ∷ [];
+      account = account 1 0 0 0;
+      requests = write 2 6 3 ∷ [];
+      values = 3 ∷ [];
+      answer = answered 1 0 0;
+      cost = cost 4 4 0;
+      changes = true;
+      lines = copy 17 1 4 1 (0 ∷ 0 ∷ 3 ∷ 0 ∷ []) ∷ [];
+      memory = cell 37 6 ∷ [];
+    })
+    -- what a block takes with it is not what another gets
+    ∷ session (record {
+      setup = usual;
+      before = write 2 37 6 ∷ read 2 6 ∷ [];
+      account = account 2 0 0 0;
+      requests = read 3 37 ∷ [];
+      values = 6 ∷ [];
+      answer = answered 1 0 0;
+      cost = cost 4 0 0;
+      changes = true;
+      lines = copy 17 1 4 0 (0 ∷ 0 ∷ 0 ∷ 0 ∷ []) ∷ copy 25 9 4 0 (0 ∷ 6 ∷ 0 ∷ 0 ∷ []) ∷ [];
+      memory = cell 37 6 ∷ [];
+    })
+    -- one processor: no other holder, ever
+    ∷ session (record {
+      setup = board 1 1 2 2;
+      before = [];
+      account = account 0 0 0 0;
+      requests = read 0 3 ∷ write 0 3 4 ∷ write 0 2 5 ∷ [];
+      values = 0 ∷ 4 ∷ 5 ∷ [];
+      answer = answered 3 0 0;
+      cost = cost 2 0 0;
+      changes = true;
+      lines = copy 0 1 2 1 (5 ∷ 4 ∷ []) ∷ [];
+      memory = [];
+    })
+    -- more lines than blocks
+    ∷ session (record {
+      setup = board 2 5 2 3;
+      before = write 1 5 3 ∷ [];
+      account = account 1 0 0 0;
+      requests = read 0 5 ∷ write 0 4 2 ∷ write 0 4 1 ∷ [];
+      values = 3 ∷ 2 ∷ 1 ∷ [];
+      answer = answered 3 0 0;
+      cost = cost 2 0 2;
+      changes = true;
+      lines = copy 2 2 2 0 (1 ∷ 3 ∷ []) ∷ [];
+      memory = cell 4 1 ∷ cell 5 3 ∷ [];
+    })
+    -- sound tables
+    ∷ tabled (board 2 2 2 5) (tables (4 ∷ 3 ∷ 4 ∷ 0 ∷ []) (1 ∷ 2 ∷ 2 ∷ 0 ∷ []) (0 ∷ 1 ∷ 0 ∷ 0 ∷ [])
+    (8 ∷ 9 ∷ 5 ∷ 6 ∷ 8 ∷ 9 ∷ 0 ∷ 0 ∷ [])
+    (0 ∷ 0 ∷ 0 ∷ 0 ∷ 0 ∷ 0 ∷ 7 ∷ 7 ∷ 8 ∷ 9 ∷ [])) 0
+    -- 20: a counter over p
+    ∷ tabled (board 2 2 2 5) (tables (4 ∷ 3 ∷ 4 ∷ 0 ∷ []) (3 ∷ 2 ∷ 2 ∷ 0 ∷ []) (0 ∷ 1 ∷ 0 ∷ 0 ∷ [])
+    (8 ∷ 9 ∷ 5 ∷ 6 ∷ 8 ∷ 9 ∷ 0 ∷ 0 ∷ [])
+    (0 ∷ 0 ∷ 0 ∷ 0 ∷ 0 ∷ 0 ∷ 7 ∷ 7 ∷ 8 ∷ 9 ∷ [])) 20
+    -- 20: an empty line with a block number
+    ∷ tabled (board 2 2 2 5) (tables (4 ∷ 3 ∷ 4 ∷ 1 ∷ []) (1 ∷ 2 ∷ 2 ∷ 0 ∷ []) (0 ∷ 1 ∷ 0 ∷ 0 ∷ [])
+    (8 ∷ 9 ∷ 5 ∷ 6 ∷ 8 ∷ 9 ∷ 0 ∷ 0 ∷ [])
+    (0 ∷ 0 ∷ 0 ∷ 0 ∷ 0 ∷ 0 ∷ 7 ∷ 7 ∷ 8 ∷ 9 ∷ [])) 20
+    -- 20: an empty line with a mark
+    ∷ tabled (board 2 2 2 5) (tables (4 ∷ 3 ∷ 4 ∷ 0 ∷ []) (1 ∷ 2 ∷ 2 ∷ 0 ∷ []) (0 ∷ 1 ∷ 0 ∷ 1 ∷ [])
+    (8 ∷ 9 ∷ 5 ∷ 6 ∷ 8 ∷ 9 ∷ 0 ∷ 0 ∷ [])
+    (0 ∷ 0 ∷ 0 ∷ 0 ∷ 0 ∷ 0 ∷ 7 ∷ 7 ∷ 8 ∷ 9 ∷ [])) 20
+    -- 20: an empty line with a word
+    ∷ tabled (board 2 2 2 5) (tables (4 ∷ 3 ∷ 4 ∷ 0 ∷ []) (1 ∷ 2 ∷ 2 ∷ 0 ∷ []) (0 ∷ 1 ∷ 0 ∷ 0 ∷ [])
+    (8 ∷ 9 ∷ 5 ∷ 6 ∷ 8 ∷ 9 ∷ 0 ∷ 1 ∷ [])
+    (0 ∷ 0 ∷ 0 ∷ 0 ∷ 0 ∷ 0 ∷ 7 ∷ 7 ∷ 8 ∷ 9 ∷ [])) 20
+    -- 20: a held block not below M
+    ∷ tabled (board 2 2 2 5) (tables (4 ∷ 5 ∷ 4 ∷ 0 ∷ []) (1 ∷ 2 ∷ 2 ∷ 0 ∷ []) (0 ∷ 1 ∷ 0 ∷ 0 ∷ [])
+    (8 ∷ 9 ∷ 5 ∷ 6 ∷ 8 ∷ 9 ∷ 0 ∷ 0 ∷ [])
+    (0 ∷ 0 ∷ 0 ∷ 0 ∷ 0 ∷ 0 ∷ 7 ∷ 7 ∷ 8 ∷ 9 ∷ [])) 20
+    -- 20: a held block in another line
+    ∷ tabled (board 2 2 2 5) (tables (4 ∷ 2 ∷ 4 ∷ 0 ∷ []) (1 ∷ 2 ∷ 2 ∷ 0 ∷ []) (0 ∷ 1 ∷ 0 ∷ 0 ∷ [])
+    (8 ∷ 9 ∷ 5 ∷ 6 ∷ 8 ∷ 9 ∷ 0 ∷ 0 ∷ [])
+    (0 ∷ 0 ∷ 0 ∷ 0 ∷ 0 ∷ 0 ∷ 7 ∷ 7 ∷ 8 ∷ 9 ∷ [])) 20
+    -- 20: a mark that is neither 0 nor 1
+    ∷ tabled (board 2 2 2 5) (tables (4 ∷ 3 ∷ 4 ∷ 0 ∷ []) (1 ∷ 2 ∷ 2 ∷ 0 ∷ []) (0 ∷ 2 ∷ 0 ∷ 0 ∷ [])
+    (8 ∷ 9 ∷ 5 ∷ 6 ∷ 8 ∷ 9 ∷ 0 ∷ 0 ∷ [])
+    (0 ∷ 0 ∷ 0 ∷ 0 ∷ 0 ∷ 0 ∷ 7 ∷ 7 ∷ 8 ∷ 9 ∷ [])) 20
+    -- 20: a marked block with counter below p
+    ∷ tabled (board 2 2 2 5) (tables (4 ∷ 3 ∷ 4 ∷ 0 ∷ []) (1 ∷ 1 ∷ 2 ∷ 0 ∷ []) (0 ∷ 1 ∷ 0 ∷ 0 ∷ [])
+    (8 ∷ 9 ∷ 5 ∷ 6 ∷ 8 ∷ 9 ∷ 0 ∷ 0 ∷ [])
+    (0 ∷ 0 ∷ 0 ∷ 0 ∷ 0 ∷ 0 ∷ 7 ∷ 7 ∷ 8 ∷ 9 ∷ [])) 20
+    -- 20: a marked block with a second holder
+    ∷ tabled (board 2 2 2 5) (tables (4 ∷ 3 ∷ 4 ∷ 3 ∷ []) (1 ∷ 2 ∷ 2 ∷ 2 ∷ []) (0 ∷ 1 ∷ 0 ∷ 0 ∷ [])
+    (8 ∷ 9 ∷ 5 ∷ 6 ∷ 8 ∷ 9 ∷ 7 ∷ 7 ∷ [])
+    (0 ∷ 0 ∷ 0 ∷ 0 ∷ 0 ∷ 0 ∷ 7 ∷ 7 ∷ 8 ∷ 9 ∷ [])) 20
+    -- 20: an unmarked copy unlike memory
+    ∷ tabled (board 2 2 2 5) (tables (4 ∷ 3 ∷ 4 ∷ 0 ∷ []) (1 ∷ 2 ∷ 2 ∷ 0 ∷ []) (0 ∷ 1 ∷ 0 ∷ 0 ∷ [])
+    (8 ∷ 9 ∷ 5 ∷ 6 ∷ 8 ∷ 1 ∷ 0 ∷ 0 ∷ [])
+    (0 ∷ 0 ∷ 0 ∷ 0 ∷ 0 ∷ 0 ∷ 7 ∷ 7 ∷ 8 ∷ 9 ∷ [])) 20
+    -- 20: memory unlike an unmarked copy
+    ∷ tabled (board 2 2 2 5) (tables (4 ∷ 3 ∷ 4 ∷ 0 ∷ []) (1 ∷ 2 ∷ 2 ∷ 0 ∷ []) (0 ∷ 1 ∷ 0 ∷ 0 ∷ [])
+    (8 ∷ 9 ∷ 5 ∷ 6 ∷ 8 ∷ 9 ∷ 0 ∷ 0 ∷ [])
+    (0 ∷ 0 ∷ 0 ∷ 0 ∷ 0 ∷ 0 ∷ 7 ∷ 7 ∷ 8 ∷ 1 ∷ [])) 20
+    -- a look at a held block, counter and mark whatever
+    ∷ lent (record {
+      setup = board 2 2 2 5;
+      tables = tables (4 ∷ 3 ∷ 4 ∷ 0 ∷ []) (1 ∷ 2 ∷ 2 ∷ 0 ∷ []) (0 ∷ 1 ∷ 0 ∷ 0 ∷ []) (8 ∷ 9 ∷ 5 ∷ 6 ∷ 8 ∷ 9 ∷ 0 ∷ 0 ∷ []) (0 ∷ 0 ∷ 0 ∷ 0 ∷ 0 ∷ 0 ∷ 7 ∷ 7 ∷ 8 ∷ 9 ∷ []);
+      account = account 3 0 0 0;
+      values = 9 ∷ [];
+      runRefusal = 0;
+      startRefusal = 0;
+      processor = 0;
+      block = 3;
+      seen = 5 ∷ 6 ∷ [];
+    })
+    -- a look at the other cache's copy; soundness plays no part
+    ∷ lent (record {
+      setup = board 2 2 2 5;
+      tables = tables (4 ∷ 3 ∷ 4 ∷ 0 ∷ []) (1 ∷ 2 ∷ 2 ∷ 0 ∷ []) (7 ∷ 1 ∷ 0 ∷ 0 ∷ []) (8 ∷ 9 ∷ 5 ∷ 6 ∷ 1 ∷ 9 ∷ 0 ∷ 0 ∷ []) (0 ∷ 0 ∷ 0 ∷ 0 ∷ 0 ∷ 0 ∷ 7 ∷ 7 ∷ 8 ∷ 9 ∷ []);
+      account = account 3 0 0 0;
+      values = 9 ∷ [];
+      runRefusal = 20;
+      startRefusal = 0;
+      processor = 1;
+      block = 4;
+      seen = 1 ∷ 9 ∷ [];
+    })
+    -- a look at an empty line; 2 by the list of values
+    ∷ lent (record {
+      setup = board 2 2 2 5;
+      tables = tables (4 ∷ 3 ∷ 4 ∷ 0 ∷ []) (1 ∷ 2 ∷ 2 ∷ 0 ∷ []) (0 ∷ 1 ∷ 0 ∷ 0 ∷ []) (8 ∷ 9 ∷ 5 ∷ 6 ∷ 8 ∷ 9 ∷ 0 ∷ 0 ∷ []) (0 ∷ 0 ∷ 0 ∷ 0 ∷ 0 ∷ 0 ∷ 7 ∷ 7 ∷ 8 ∷ 9 ∷ []);
+      account = account 3 0 0 0;
+      values = 9 ∷ 9 ∷ [];
+      runRefusal = 2;
+      startRefusal = 0;
+      processor = 1;
+      block = 1;
+      seen = [];
+    })
+    -- a look at a line that names another block; 2 before 20
+    ∷ lent (record {
+      setup = board 2 2 2 5;
+      tables = tables (4 ∷ 3 ∷ 4 ∷ 0 ∷ []) (9 ∷ 2 ∷ 2 ∷ 0 ∷ []) (0 ∷ 1 ∷ 0 ∷ 0 ∷ []) (8 ∷ 9 ∷ 5 ∷ 6 ∷ 8 ∷ 9 ∷ 0 ∷ 0 ∷ []) (0 ∷ 0 ∷ 0 ∷ 0 ∷ 0 ∷ 0 ∷ 7 ∷ 7 ∷ 8 ∷ 9 ∷ []);
+      account = account 3 0 0 0;
+      values = [];
+      runRefusal = 2;
+      startRefusal = 0;
+      processor = 0;
+      block = 2;
+      seen = [];
+    })
+    -- a look at a block not below M; 20 before 21
+    ∷ lent (record {
+      setup = board 2 2 2 5;
+      tables = tables (4 ∷ 5 ∷ 4 ∷ 0 ∷ []) (1 ∷ 2 ∷ 2 ∷ 0 ∷ []) (0 ∷ 1 ∷ 0 ∷ 0 ∷ []) (8 ∷ 9 ∷ 5 ∷ 6 ∷ 8 ∷ 9 ∷ 0 ∷ 0 ∷ []) (0 ∷ 0 ∷ 0 ∷ 0 ∷ 0 ∷ 0 ∷ 7 ∷ 7 ∷ 8 ∷ 9 ∷ []);
+      account = account 0 1 0 0;
+      values = 9 ∷ [];
+      runRefusal = 20;
+      startRefusal = 0;
+      processor = 0;
+      block = 5;
+      seen = [];
+    })
+    -- a look at a processor not below N; 21 before 22
+    ∷ lent (record {
+      setup = board 2 2 2 5;
+      tables = tables (4 ∷ 3 ∷ 4 ∷ 0 ∷ []) (1 ∷ 2 ∷ 2 ∷ 0 ∷ []) (0 ∷ 1 ∷ 0 ∷ 0 ∷ []) (8 ∷ 9 ∷ 5 ∷ 6 ∷ 8 ∷ 9 ∷ 0 ∷ 0 ∷ []) (0 ∷ 0 ∷ 0 ∷ 0 ∷ 0 ∷ 0 ∷ 7 ∷ 7 ∷ 8 ∷ 9 ∷ []);
+      account = account 1000000 0 0 1000001;
+      values = 9 ∷ [];
+      runRefusal = 21;
+      startRefusal = 0;
+      processor = 2;
+      block = 4;
+      seen = [];
+    })
+    -- block 0 and an empty line both show 0
+    ∷ lent (record {
+      setup = board 2 2 2 5;
+      tables = tables (0 ∷ 3 ∷ 0 ∷ 0 ∷ []) (0 ∷ 2 ∷ 2 ∷ 0 ∷ []) (0 ∷ 1 ∷ 0 ∷ 0 ∷ []) (0 ∷ 0 ∷ 5 ∷ 6 ∷ 0 ∷ 0 ∷ 0 ∷ 0 ∷ []) (0 ∷ 0 ∷ 0 ∷ 0 ∷ 0 ∷ 0 ∷ 7 ∷ 7 ∷ 8 ∷ 9 ∷ []);
+      account = account 3 0 0 0;
+      values = 9 ∷ [];
+      runRefusal = 0;
+      startRefusal = 0;
+      processor = 0;
+      block = 0;
+      seen = [];
+    })
+    -- 2: block numbers too long
+    ∷ lent (record {
+      setup = board 2 2 2 5;
+      tables = tables (4 ∷ 3 ∷ 4 ∷ 0 ∷ 0 ∷ []) (1 ∷ 2 ∷ 2 ∷ 0 ∷ []) (0 ∷ 1 ∷ 0 ∷ 0 ∷ []) (8 ∷ 9 ∷ 5 ∷ 6 ∷ 8 ∷ 9 ∷ 0 ∷ 0 ∷ []) (0 ∷ 0 ∷ 0 ∷ 0 ∷ 0 ∷ 0 ∷ 7 ∷ 7 ∷ 8 ∷ 9 ∷ []);
+      account = account 3 0 0 0;
+      values = 9 ∷ [];
+      runRefusal = 2;
+      startRefusal = 2;
+      processor = 0;
+      block = 3;
+      seen = [];
+    })
+    -- 2: counters too short
+    ∷ lent (record {
+      setup = board 2 2 2 5;
+      tables = tables (4 ∷ 3 ∷ 4 ∷ 0 ∷ []) (1 ∷ 2 ∷ 2 ∷ []) (0 ∷ 1 ∷ 0 ∷ 0 ∷ []) (8 ∷ 9 ∷ 5 ∷ 6 ∷ 8 ∷ 9 ∷ 0 ∷ 0 ∷ []) (0 ∷ 0 ∷ 0 ∷ 0 ∷ 0 ∷ 0 ∷ 7 ∷ 7 ∷ 8 ∷ 9 ∷ []);
+      account = account 3 0 0 0;
+      values = 9 ∷ [];
+      runRefusal = 2;
+      startRefusal = 2;
+      processor = 0;
+      block = 3;
+      seen = [];
+    })
+    -- 2: marks too long, which a look is not lent
+    ∷ lent (record {
+      setup = board 2 2 2 5;
+      tables = tables (4 ∷ 3 ∷ 4 ∷ 0 ∷ []) (1 ∷ 2 ∷ 2 ∷ 0 ∷ []) (0 ∷ 1 ∷ 0 ∷ 0 ∷ 0 ∷ []) (8 ∷ 9 ∷ 5 ∷ 6 ∷ 8 ∷ 9 ∷ 0 ∷ 0 ∷ []) (0 ∷ 0 ∷ 0 ∷ 0 ∷ 0 ∷ 0 ∷ 7 ∷ 7 ∷ 8 ∷ 9 ∷ []);
+      account = account 3 0 0 0;
+      values = 9 ∷ [];
+      runRefusal = 2;
+      startRefusal = 2;
+      processor = 0;
+      block = 3;
+      seen = 5 ∷ 6 ∷ [];
+    })
+    -- 2: words too short
+    ∷ lent (record {
+      setup = board 2 2 2 5;
+      tables = tables (4 ∷ 3 ∷ 4 ∷ 0 ∷ []) (1 ∷ 2 ∷ 2 ∷ 0 ∷ []) (0 ∷ 1 ∷ 0 ∷ 0 ∷ []) (8 ∷ 9 ∷ 5 ∷ 6 ∷ 8 ∷ 9 ∷ 0 ∷ []) (0 ∷ 0 ∷ 0 ∷ 0 ∷ 0 ∷ 0 ∷ 7 ∷ 7 ∷ 8 ∷ 9 ∷ []);
+      account = account 3 0 0 0;
+      values = 9 ∷ [];
+      runRefusal = 2;
+      startRefusal = 2;
+      processor = 0;
+      block = 3;
+      seen = [];
+    })
+    -- 2: memory too long, which a look is not lent
+    ∷ lent (record {
+      setup = board 2 2 2 5;
+      tables = tables (4 ∷ 3 ∷ 4 ∷ 0 ∷ []) (1 ∷ 2 ∷ 2 ∷ 0 ∷ []) (0 ∷ 1 ∷ 0 ∷ 0 ∷ []) (8 ∷ 9 ∷ 5 ∷ 6 ∷ 8 ∷ 9 ∷ 0 ∷ 0 ∷ []) (0 ∷ 0 ∷ 0 ∷ 0 ∷ 0 ∷ 0 ∷ 7 ∷ 7 ∷ 8 ∷ 9 ∷ 0 ∷ []);
+      account = account 3 0 0 0;
+      values = 9 ∷ [];
+      runRefusal = 2;
+      startRefusal = 2;
+      processor = 0;
+      block = 3;
+      seen = 5 ∷ 6 ∷ [];
+    })
+    -- 1 before 2
+    ∷ lent (record {
+      setup = board 2 2 2 257;
+      tables = tables (4 ∷ 3 ∷ 4 ∷ 0 ∷ []) (1 ∷ 2 ∷ 2 ∷ 0 ∷ []) (0 ∷ 1 ∷ 0 ∷ 0 ∷ []) (8 ∷ 9 ∷ 5 ∷ 6 ∷ 8 ∷ 9 ∷ 0 ∷ 0 ∷ []) (0 ∷ 0 ∷ 0 ∷ 0 ∷ 0 ∷ 0 ∷ 7 ∷ 7 ∷ 8 ∷ 9 ∷ []);
+      account = account 0 1 0 0;
+      values = [];
+      runRefusal = 1;
+      startRefusal = 1;
+      processor = 0;
+      block = 3;
+      seen = [];
+    })
+    -- a lone write costs 0 and marks
+    ∷ quote (record {
+      setup = board 2 2 3 5;
+      requests = write 1 10 5 ∷ [];
+      entries = fetch 1 3 ∷ Complete ∷ [];
+      number = 0;
+      place = 0;
+      cost = 3;
+      blocks = 0 ∷ 0 ∷ 0 ∷ 3 ∷ [];
+      held = 0 ∷ 0 ∷ 0 ∷ 1 ∷ [];
+      marks = 0 ∷ 0 ∷ 0 ∷ 1 ∷ [];
+    })
+    -- mistake 6: a drop of the last current copy is refused
+    ∷ quote (record {
+      setup = board 2 2 3 5;
+      requests = write 1 10 5 ∷ [];
+      entries = fetch 1 3 ∷ Complete ∷ drop 1 3 ∷ [];
+      number = 25;
+      place = 2;
+      cost = 0;
+      blocks = 0 ∷ 0 ∷ 0 ∷ 0 ∷ [];
+      held = 0 ∷ 0 ∷ 0 ∷ 0 ∷ [];
+      marks = 0 ∷ 0 ∷ 0 ∷ 0 ∷ [];
+    })
+    -- a write-back clears the mark, then the drop is free and leaves an empty line
+    ∷ quote (record {
+      setup = board 2 2 3 5;
+      requests = write 1 10 5 ∷ [];
+      entries = fetch 1 3 ∷ Complete ∷ writeBack 1 3 ∷ drop 1 3 ∷ [];
+      number = 0;
+      place = 0;
+      cost = 6;
+      blocks = 0 ∷ 0 ∷ 0 ∷ 0 ∷ [];
+      held = 0 ∷ 0 ∷ 0 ∷ 0 ∷ [];
+      marks = 0 ∷ 0 ∷ 0 ∷ 0 ∷ [];
+    })
+    -- a write-back keeps the copy
+    ∷ quote (record {
+      setup = board 2 2 3 5;
+      requests = write 1 10 5 ∷ [];
+      entries = fetch 1 3 ∷ Complete ∷ writeBack 1 3 ∷ [];
+      number = 0;
+      place = 0;
+      cost = 6;
+      blocks = 0 ∷ 0 ∷ 0 ∷ 3 ∷ [];
+      held = 0 ∷ 0 ∷ 0 ∷ 1 ∷ [];
+      marks = 0 ∷ 0 ∷ 0 ∷ 0 ∷ [];
+    })
+    -- a fetch clears the mark elsewhere, and its own copy is unmarked
+    ∷ quote (record {
+      setup = board 2 2 3 5;
+      requests = write 1 10 5 ∷ [];
+      entries = fetch 1 3 ∷ Complete ∷ fetch 0 3 ∷ [];
+      number = 0;
+      place = 0;
+      cost = 6;
+      blocks = 0 ∷ 3 ∷ 0 ∷ 3 ∷ [];
+      held = 0 ∷ 1 ∷ 0 ∷ 1 ∷ [];
+      marks = 0 ∷ 0 ∷ 0 ∷ 0 ∷ [];
+    })
+    -- a fetch leaves the marks of other blocks
+    ∷ quote (record {
+      setup = board 2 2 3 5;
+      requests = write 1 10 5 ∷ [];
+      entries = fetch 1 3 ∷ Complete ∷ fetch 0 1 ∷ fetch 1 4 ∷ [];
+      number = 0;
+      place = 0;
+      cost = 9;
+      blocks = 0 ∷ 1 ∷ 4 ∷ 3 ∷ [];
+      held = 0 ∷ 1 ∷ 1 ∷ 1 ∷ [];
+      marks = 0 ∷ 0 ∷ 0 ∷ 1 ∷ [];
+    })
+    -- a shared write costs 1 and marks nothing
+    ∷ quote (record {
+      setup = board 2 2 3 5;
+      requests = write 1 10 5 ∷ [];
+      entries = fetch 1 3 ∷ fetch 0 3 ∷ Complete ∷ [];
+      number = 0;
+      place = 0;
+      cost = 7;
+      blocks = 0 ∷ 3 ∷ 0 ∷ 3 ∷ [];
+      held = 0 ∷ 1 ∷ 0 ∷ 1 ∷ [];
+      marks = 0 ∷ 0 ∷ 0 ∷ 0 ∷ [];
+    })
+    -- by broadcast a lone write costs 1, and an unmarked block stays unmarked
+    ∷ quote (record {
+      setup = board 2 2 3 5;
+      requests = write 1 10 5 ∷ [];
+      entries = fetch 1 3 ∷ CompleteByBroadcast ∷ [];
+      number = 0;
+      place = 0;
+      cost = 4;
+      blocks = 0 ∷ 0 ∷ 0 ∷ 3 ∷ [];
+      held = 0 ∷ 0 ∷ 0 ∷ 1 ∷ [];
+      marks = 0 ∷ 0 ∷ 0 ∷ 0 ∷ [];
+    })
+    -- by broadcast a marked block stays marked
+    ∷ quote (record {
+      setup = board 2 2 3 5;
+      requests = write 1 10 5 ∷ write 1 10 5 ∷ [];
+      entries = fetch 1 3 ∷ Complete ∷ CompleteByBroadcast ∷ [];
+      number = 0;
+      place = 0;
+      cost = 4;
+      blocks = 0 ∷ 0 ∷ 0 ∷ 3 ∷ [];
+      held = 0 ∷ 0 ∷ 0 ∷ 1 ∷ [];
+      marks = 0 ∷ 0 ∷ 0 ∷ 1 ∷ [];
+    })
+    -- a read costs 0 and marks nothing
+    ∷ quote (record {
+      setup = board 2 2 3 5;
+      requests = read 1 10 ∷ [];
+      entries = fetch 1 3 ∷ Complete ∷ [];
+      number = 0;
+      place = 0;
+      cost = 3;
+      blocks = 0 ∷ 0 ∷ 0 ∷ 3 ∷ [];
+      held = 0 ∷ 0 ∷ 0 ∷ 1 ∷ [];
+      marks = 0 ∷ 0 ∷ 0 ∷ 0 ∷ [];
+    })
+    -- a write-back of an unmarked block costs as much; entries after the last completion
+    ∷ quote (record {
+      setup = board 2 2 3 5;
+      requests = [];
+      entries = fetch 0 4 ∷ writeBack 0 4 ∷ [];
+      number = 0;
+      place = 0;
+      cost = 6;
+      blocks = 4 ∷ 0 ∷ 0 ∷ 0 ∷ [];
+      held = 1 ∷ 0 ∷ 0 ∷ 0 ∷ [];
+      marks = 0 ∷ 0 ∷ 0 ∷ 0 ∷ [];
+    })
+    -- no schedule for no request
+    ∷ quote (record {
+      setup = board 2 2 3 5;
+      requests = [];
+      entries = [];
+      number = 0;
+      place = 0;
+      cost = 0;
+      blocks = 0 ∷ 0 ∷ 0 ∷ 0 ∷ [];
+      held = 0 ∷ 0 ∷ 0 ∷ 0 ∷ [];
+      marks = 0 ∷ 0 ∷ 0 ∷ 0 ∷ [];
+    })
+    -- a dropped line can be fetched into
+    ∷ quote (record {
+      setup = board 2 2 3 5;
+      requests = [];
+      entries = fetch 1 3 ∷ drop 1 3 ∷ fetch 1 1 ∷ [];
+      number = 0;
+      place = 0;
+      cost = 6;
+      blocks = 0 ∷ 0 ∷ 0 ∷ 1 ∷ [];
+      held = 0 ∷ 0 ∷ 0 ∷ 1 ∷ [];
+      marks = 0 ∷ 0 ∷ 0 ∷ 0 ∷ [];
+    })
+    -- 23: a fetch into a line in use, even of the same block
+    ∷ quote (record {
+      setup = board 2 2 3 5;
+      requests = [];
+      entries = fetch 1 3 ∷ fetch 1 3 ∷ [];
+      number = 23;
+      place = 1;
+      cost = 0;
+      blocks = 0 ∷ 0 ∷ 0 ∷ 0 ∷ [];
+      held = 0 ∷ 0 ∷ 0 ∷ 0 ∷ [];
+      marks = 0 ∷ 0 ∷ 0 ∷ 0 ∷ [];
+    })
+    -- 24: a drop of another block of the line
+    ∷ quote (record {
+      setup = board 2 2 3 5;
+      requests = [];
+      entries = fetch 1 3 ∷ drop 1 1 ∷ [];
+      number = 24;
+      place = 1;
+      cost = 0;
+      blocks = 0 ∷ 0 ∷ 0 ∷ 0 ∷ [];
+      held = 0 ∷ 0 ∷ 0 ∷ 0 ∷ [];
+      marks = 0 ∷ 0 ∷ 0 ∷ 0 ∷ [];
+    })
+    -- 24: a write-back of a block that another holds
+    ∷ quote (record {
+      setup = board 2 2 3 5;
+      requests = [];
+      entries = fetch 1 3 ∷ writeBack 0 3 ∷ [];
+      number = 24;
+      place = 1;
+      cost = 0;
+      blocks = 0 ∷ 0 ∷ 0 ∷ 0 ∷ [];
+      held = 0 ∷ 0 ∷ 0 ∷ 0 ∷ [];
+      marks = 0 ∷ 0 ∷ 0 ∷ 0 ∷ [];
+    })
+    -- 3 before 8
+    ∷ quote (record {
+      setup = board 2 2 3 5;
+      requests = [];
+      entries = fetch 1 3 ∷ fetch 2 5 ∷ [];
+      number = 3;
+      place = 1;
+      cost = 0;
+      blocks = 0 ∷ 0 ∷ 0 ∷ 0 ∷ [];
+      held = 0 ∷ 0 ∷ 0 ∷ 0 ∷ [];
+      marks = 0 ∷ 0 ∷ 0 ∷ 0 ∷ [];
+    })
+    -- 8 before 24
+    ∷ quote (record {
+      setup = board 2 2 3 5;
+      requests = [];
+      entries = drop 0 5 ∷ [];
+      number = 8;
+      place = 0;
+      cost = 0;
+      blocks = 0 ∷ 0 ∷ 0 ∷ 0 ∷ [];
+      held = 0 ∷ 0 ∷ 0 ∷ 0 ∷ [];
+      marks = 0 ∷ 0 ∷ 0 ∷ 0 ∷ [];
+    })
+    -- 26 with no request left
+    ∷ quote (record {
+      setup = board 2 2 3 5;
+      requests = write 1 10 5 ∷ [];
+      entries = fetch 1 3 ∷ Complete ∷ CompleteByBroadcast ∷ [];
+      number = 26;
+      place = 2;
+      cost = 0;
+      blocks = 0 ∷ 0 ∷ 0 ∷ 0 ∷ [];
+      held = 0 ∷ 0 ∷ 0 ∷ 0 ∷ [];
+      marks = 0 ∷ 0 ∷ 0 ∷ 0 ∷ [];
+    })
+    -- 3 before 4 at a completion
+    ∷ quote (record {
+      setup = board 2 2 3 5;
+      requests = read 2 15 ∷ [];
+      entries = fetch 1 3 ∷ Complete ∷ [];
+      number = 3;
+      place = 1;
+      cost = 0;
+      blocks = 0 ∷ 0 ∷ 0 ∷ 0 ∷ [];
+      held = 0 ∷ 0 ∷ 0 ∷ 0 ∷ [];
+      marks = 0 ∷ 0 ∷ 0 ∷ 0 ∷ [];
+    })
+    -- 4 before 9
+    ∷ quote (record {
+      setup = board 2 2 3 5;
+      requests = read 0 15 ∷ [];
+      entries = CompleteByBroadcast ∷ [];
+      number = 4;
+      place = 0;
+      cost = 0;
+      blocks = 0 ∷ 0 ∷ 0 ∷ 0 ∷ [];
+      held = 0 ∷ 0 ∷ 0 ∷ 0 ∷ [];
+      marks = 0 ∷ 0 ∷ 0 ∷ 0 ∷ [];
+    })
+    -- 9 before 27
+    ∷ quote (record {
+      setup = board 2 2 3 5;
+      requests = read 0 10 ∷ [];
+      entries = CompleteByBroadcast ∷ [];
+      number = 9;
+      place = 0;
+      cost = 0;
+      blocks = 0 ∷ 0 ∷ 0 ∷ 0 ∷ [];
+      held = 0 ∷ 0 ∷ 0 ∷ 0 ∷ [];
+      marks = 0 ∷ 0 ∷ 0 ∷ 0 ∷ [];
+    })
+    -- 27: another holds the block
+    ∷ quote (record {
+      setup = board 2 2 3 5;
+      requests = read 0 10 ∷ [];
+      entries = fetch 1 3 ∷ Complete ∷ [];
+      number = 27;
+      place = 1;
+      cost = 0;
+      blocks = 0 ∷ 0 ∷ 0 ∷ 0 ∷ [];
+      held = 0 ∷ 0 ∷ 0 ∷ 0 ∷ [];
+      marks = 0 ∷ 0 ∷ 0 ∷ 0 ∷ [];
+    })
+    -- 28: at the schedule's length
+    ∷ quote (record {
+      setup = board 2 2 3 5;
+      requests = write 1 10 5 ∷ [];
+      entries = fetch 1 3 ∷ [];
+      number = 28;
+      place = 1;
+      cost = 0;
+      blocks = 0 ∷ 0 ∷ 0 ∷ 0 ∷ [];
+      held = 0 ∷ 0 ∷ 0 ∷ 0 ∷ [];
+      marks = 0 ∷ 0 ∷ 0 ∷ 0 ∷ [];
+    })
+    -- 1: tables untouched
+    ∷ quote (record {
+      setup = board 2 0 3 5;
+      requests = write 1 10 5 ∷ [];
+      entries = fetch 1 3 ∷ [];
+      number = 1;
+      place = 0;
+      cost = 0;
+      blocks = [];
+      held = [];
+      marks = [];
+    })
+    ∷ []
