@@ -788,11 +788,11 @@ rows =
     -- a look at a held block, counter and mark whatever
     ∷ lent (record {
       setup = board 2 2 2 5;
-      tables = tables (4 ∷ 3 ∷ 4 ∷ 0 ∷ []) (1 ∷ 2 ∷ 2 ∷ 0 ∷ []) (0 ∷ 1 ∷ 0 ∷ 0 ∷ []) (8 ∷ 9 ∷ 5 ∷ 6 ∷ 8 ∷ 9 ∷ 0 ∷ 0 ∷ []) (0 ∷ 0 ∷ 0 ∷ 0 ∷ 0 ∷ 0 ∷ 7 ∷ 7 ∷ 8 ∷ 9 ∷ []);
       account = account 3 0 0 0;
       values = 9 ∷ [];
       runRefusal = 0;
       startRefusal = 0;
+      tables = tables (4 ∷ 3 ∷ 4 ∷ 0 ∷ []) (1 ∷ 2 ∷ 2 ∷ 0 ∷ []) (0 ∷ 1 ∷ 0 ∷ 0 ∷ []) (8 ∷ 9 ∷ 5 ∷ 6 ∷ 8 ∷ 9 ∷ 0 ∷ 0 ∷ []) (0 ∷ 0 ∷ 0 ∷ 0 ∷ 0 ∷ 0 ∷ 7 ∷ 7 ∷ 8 ∷ 9 ∷ []);
       processor = 0;
       block = 3;
       seen = 5 ∷ 6 ∷ [];
@@ -800,11 +800,11 @@ rows =
     -- a look at the other cache's copy; soundness plays no part
     ∷ lent (record {
       setup = board 2 2 2 5;
-      tables = tables (4 ∷ 3 ∷ 4 ∷ 0 ∷ []) (1 ∷ 2 ∷ 2 ∷ 0 ∷ []) (7 ∷ 1 ∷ 0 ∷ 0 ∷ []) (8 ∷ 9 ∷ 5 ∷ 6 ∷ 1 ∷ 9 ∷ 0 ∷ 0 ∷ []) (0 ∷ 0 ∷ 0 ∷ 0 ∷ 0 ∷ 0 ∷ 7 ∷ 7 ∷ 8 ∷ 9 ∷ []);
       account = account 3 0 0 0;
       values = 9 ∷ [];
       runRefusal = 20;
       startRefusal = 0;
+      tables = tables (4 ∷ 3 ∷ 4 ∷ 0 ∷ []) (1 ∷ 2 ∷ 2 ∷ 0 ∷ []) (7 ∷ 1 ∷ 0 ∷ 0 ∷ []) (8 ∷ 9 ∷ 5 ∷ 6 ∷ 1 ∷ 9 ∷ 0 ∷ 0 ∷ []) (0 ∷ 0 ∷ 0 ∷ 0 ∷ 0 ∷ 0 ∷ 7 ∷ 7 ∷ 8 ∷ 9 ∷ []);
       processor = 1;
       block = 4;
       seen = 1 ∷ 9 ∷ [];
@@ -812,11 +812,11 @@ rows =
     -- a look at an empty line; 2 by the list of values
     ∷ lent (record {
       setup = board 2 2 2 5;
-      tables = tables (4 ∷ 3 ∷ 4 ∷ 0 ∷ []) (1 ∷ 2 ∷ 2 ∷ 0 ∷ []) (0 ∷ 1 ∷ 0 ∷ 0 ∷ []) (8 ∷ 9 ∷ 5 ∷ 6 ∷ 8 ∷ 9 ∷ 0 ∷ 0 ∷ []) (0 ∷ 0 ∷ 0 ∷ 0 ∷ 0 ∷ 0 ∷ 7 ∷ 7 ∷ 8 ∷ 9 ∷ []);
       account = account 3 0 0 0;
       values = 9 ∷ 9 ∷ [];
       runRefusal = 2;
       startRefusal = 0;
+      tables = tables (4 ∷ 3 ∷ 4 ∷ 0 ∷ []) (1 ∷ 2 ∷ 2 ∷ 0 ∷ []) (0 ∷ 1 ∷ 0 ∷ 0 ∷ []) (8 ∷ 9 ∷ 5 ∷ 6 ∷ 8 ∷ 9 ∷ 0 ∷ 0 ∷ []) (0 ∷ 0 ∷ 0 ∷ 0 ∷ 0 ∷ 0 ∷ 7 ∷ 7 ∷ 8 ∷ 9 ∷ []);
       processor = 1;
       block = 1;
       seen = [];
@@ -824,11 +824,11 @@ rows =
     -- a look at a line that names another block; 2 before 20
     ∷ lent (record {
       setup = board 2 2 2 5;
-      tables = tables (4 ∷ 3 ∷ 4 ∷ 0 ∷ []) (9 ∷ 2 ∷ 2 ∷ 0 ∷ []) (0 ∷ 1 ∷ 0 ∷ 0 ∷ []) (8 ∷ 9 ∷ 5 ∷ 6 ∷ 8 ∷ 9 ∷ 0 ∷ 0 ∷ []) (0 ∷ 0 ∷ 0 ∷ 0 ∷ 0 ∷ 0 ∷ 7 ∷ 7 ∷ 8 ∷ 9 ∷ []);
       account = account 3 0 0 0;
       values = [];
       runRefusal = 2;
       startRefusal = 0;
+      tables = tables (4 ∷ 3 ∷ 4 ∷ 0 ∷ []) (9 ∷ 2 ∷ 2 ∷ 0 ∷ []) (0 ∷ 1 ∷ 0 ∷ 0 ∷ []) (8 ∷ 9 ∷ 5 ∷ 6 ∷ 8 ∷ 9 ∷ 0 ∷ 0 ∷ []) (0 ∷ 0 ∷ 0 ∷ 0 ∷ 0 ∷ 0 ∷ 7 ∷ 7 ∷ 8 ∷ 9 ∷ []);
       processor = 0;
       block = 2;
       seen = [];
@@ -836,11 +836,11 @@ rows =
     -- a look at a block not below M; 20 before 21
     ∷ lent (record {
       setup = board 2 2 2 5;
-      tables = tables (4 ∷ 5 ∷ 4 ∷ 0 ∷ []) (1 ∷ 2 ∷ 2 ∷ 0 ∷ []) (0 ∷ 1 ∷ 0 ∷ 0 ∷ []) (8 ∷ 9 ∷ 5 ∷ 6 ∷ 8 ∷ 9 ∷ 0 ∷ 0 ∷ []) (0 ∷ 0 ∷ 0 ∷ 0 ∷ 0 ∷ 0 ∷ 7 ∷ 7 ∷ 8 ∷ 9 ∷ []);
       account = account 0 1 0 0;
       values = 9 ∷ [];
       runRefusal = 20;
       startRefusal = 0;
+      tables = tables (4 ∷ 5 ∷ 4 ∷ 0 ∷ []) (1 ∷ 2 ∷ 2 ∷ 0 ∷ []) (0 ∷ 1 ∷ 0 ∷ 0 ∷ []) (8 ∷ 9 ∷ 5 ∷ 6 ∷ 8 ∷ 9 ∷ 0 ∷ 0 ∷ []) (0 ∷ 0 ∷ 0 ∷ 0 ∷ 0 ∷ 0 ∷ 7 ∷ 7 ∷ 8 ∷ 9 ∷ []);
       processor = 0;
       block = 5;
       seen = [];
@@ -848,11 +848,11 @@ rows =
     -- a look at a processor not below N; 21 before 22
     ∷ lent (record {
       setup = board 2 2 2 5;
-      tables = tables (4 ∷ 3 ∷ 4 ∷ 0 ∷ []) (1 ∷ 2 ∷ 2 ∷ 0 ∷ []) (0 ∷ 1 ∷ 0 ∷ 0 ∷ []) (8 ∷ 9 ∷ 5 ∷ 6 ∷ 8 ∷ 9 ∷ 0 ∷ 0 ∷ []) (0 ∷ 0 ∷ 0 ∷ 0 ∷ 0 ∷ 0 ∷ 7 ∷ 7 ∷ 8 ∷ 9 ∷ []);
       account = account 1000000 0 0 1000001;
       values = 9 ∷ [];
       runRefusal = 21;
       startRefusal = 0;
+      tables = tables (4 ∷ 3 ∷ 4 ∷ 0 ∷ []) (1 ∷ 2 ∷ 2 ∷ 0 ∷ []) (0 ∷ 1 ∷ 0 ∷ 0 ∷ []) (8 ∷ 9 ∷ 5 ∷ 6 ∷ 8 ∷ 9 ∷ 0 ∷ 0 ∷ []) (0 ∷ 0 ∷ 0 ∷ 0 ∷ 0 ∷ 0 ∷ 7 ∷ 7 ∷ 8 ∷ 9 ∷ []);
       processor = 2;
       block = 4;
       seen = [];
@@ -860,11 +860,11 @@ rows =
     -- block 0 and an empty line both show 0
     ∷ lent (record {
       setup = board 2 2 2 5;
-      tables = tables (0 ∷ 3 ∷ 0 ∷ 0 ∷ []) (0 ∷ 2 ∷ 2 ∷ 0 ∷ []) (0 ∷ 1 ∷ 0 ∷ 0 ∷ []) (0 ∷ 0 ∷ 5 ∷ 6 ∷ 0 ∷ 0 ∷ 0 ∷ 0 ∷ []) (0 ∷ 0 ∷ 0 ∷ 0 ∷ 0 ∷ 0 ∷ 7 ∷ 7 ∷ 8 ∷ 9 ∷ []);
       account = account 3 0 0 0;
       values = 9 ∷ [];
       runRefusal = 0;
       startRefusal = 0;
+      tables = tables (0 ∷ 3 ∷ 0 ∷ 0 ∷ []) (0 ∷ 2 ∷ 2 ∷ 0 ∷ []) (0 ∷ 1 ∷ 0 ∷ 0 ∷ []) (0 ∷ 0 ∷ 5 ∷ 6 ∷ 0 ∷ 0 ∷ 0 ∷ 0 ∷ []) (0 ∷ 0 ∷ 0 ∷ 0 ∷ 0 ∷ 0 ∷ 7 ∷ 7 ∷ 8 ∷ 9 ∷ []);
       processor = 0;
       block = 0;
       seen = [];
@@ -872,11 +872,11 @@ rows =
     -- 2: block numbers too long
     ∷ lent (record {
       setup = board 2 2 2 5;
-      tables = tables (4 ∷ 3 ∷ 4 ∷ 0 ∷ 0 ∷ []) (1 ∷ 2 ∷ 2 ∷ 0 ∷ []) (0 ∷ 1 ∷ 0 ∷ 0 ∷ []) (8 ∷ 9 ∷ 5 ∷ 6 ∷ 8 ∷ 9 ∷ 0 ∷ 0 ∷ []) (0 ∷ 0 ∷ 0 ∷ 0 ∷ 0 ∷ 0 ∷ 7 ∷ 7 ∷ 8 ∷ 9 ∷ []);
       account = account 3 0 0 0;
       values = 9 ∷ [];
       runRefusal = 2;
       startRefusal = 2;
+      tables = tables (4 ∷ 3 ∷ 4 ∷ 0 ∷ 0 ∷ []) (1 ∷ 2 ∷ 2 ∷ 0 ∷ []) (0 ∷ 1 ∷ 0 ∷ 0 ∷ []) (8 ∷ 9 ∷ 5 ∷ 6 ∷ 8 ∷ 9 ∷ 0 ∷ 0 ∷ []) (0 ∷ 0 ∷ 0 ∷ 0 ∷ 0 ∷ 0 ∷ 7 ∷ 7 ∷ 8 ∷ 9 ∷ []);
       processor = 0;
       block = 3;
       seen = [];
@@ -884,11 +884,11 @@ rows =
     -- 2: counters too short
     ∷ lent (record {
       setup = board 2 2 2 5;
-      tables = tables (4 ∷ 3 ∷ 4 ∷ 0 ∷ []) (1 ∷ 2 ∷ 2 ∷ []) (0 ∷ 1 ∷ 0 ∷ 0 ∷ []) (8 ∷ 9 ∷ 5 ∷ 6 ∷ 8 ∷ 9 ∷ 0 ∷ 0 ∷ []) (0 ∷ 0 ∷ 0 ∷ 0 ∷ 0 ∷ 0 ∷ 7 ∷ 7 ∷ 8 ∷ 9 ∷ []);
       account = account 3 0 0 0;
       values = 9 ∷ [];
       runRefusal = 2;
       startRefusal = 2;
+      tables = tables (4 ∷ 3 ∷ 4 ∷ 0 ∷ []) (1 ∷ 2 ∷ 2 ∷ []) (0 ∷ 1 ∷ 0 ∷ 0 ∷ []) (8 ∷ 9 ∷ 5 ∷ 6 ∷ 8 ∷ 9 ∷ 0 ∷ 0 ∷ []) (0 ∷ 0 ∷ 0 ∷ 0 ∷ 0 ∷ 0 ∷ 7 ∷ 7 ∷ 8 ∷ 9 ∷ []);
       processor = 0;
       block = 3;
       seen = [];
@@ -896,11 +896,11 @@ rows =
     -- 2: marks too long, which a look is not lent
     ∷ lent (record {
       setup = board 2 2 2 5;
-      tables = tables (4 ∷ 3 ∷ 4 ∷ 0 ∷ []) (1 ∷ 2 ∷ 2 ∷ 0 ∷ []) (0 ∷ 1 ∷ 0 ∷ 0 ∷ 0 ∷ []) (8 ∷ 9 ∷ 5 ∷ 6 ∷ 8 ∷ 9 ∷ 0 ∷ 0 ∷ []) (0 ∷ 0 ∷ 0 ∷ 0 ∷ 0 ∷ 0 ∷ 7 ∷ 7 ∷ 8 ∷ 9 ∷ []);
       account = account 3 0 0 0;
       values = 9 ∷ [];
       runRefusal = 2;
       startRefusal = 2;
+      tables = tables (4 ∷ 3 ∷ 4 ∷ 0 ∷ []) (1 ∷ 2 ∷ 2 ∷ 0 ∷ []) (0 ∷ 1 ∷ 0 ∷ 0 ∷ 0 ∷ []) (8 ∷ 9 ∷ 5 ∷ 6 ∷ 8 ∷ 9 ∷ 0 ∷ 0 ∷ []) (0 ∷ 0 ∷ 0 ∷ 0 ∷ 0 ∷ 0 ∷ 7 ∷ 7 ∷ 8 ∷ 9 ∷ []);
       processor = 0;
       block = 3;
       seen = 5 ∷ 6 ∷ [];
@@ -908,11 +908,11 @@ rows =
     -- 2: words too short
     ∷ lent (record {
       setup = board 2 2 2 5;
-      tables = tables (4 ∷ 3 ∷ 4 ∷ 0 ∷ []) (1 ∷ 2 ∷ 2 ∷ 0 ∷ []) (0 ∷ 1 ∷ 0 ∷ 0 ∷ []) (8 ∷ 9 ∷ 5 ∷ 6 ∷ 8 ∷ 9 ∷ 0 ∷ []) (0 ∷ 0 ∷ 0 ∷ 0 ∷ 0 ∷ 0 ∷ 7 ∷ 7 ∷ 8 ∷ 9 ∷ []);
       account = account 3 0 0 0;
       values = 9 ∷ [];
       runRefusal = 2;
       startRefusal = 2;
+      tables = tables (4 ∷ 3 ∷ 4 ∷ 0 ∷ []) (1 ∷ 2 ∷ 2 ∷ 0 ∷ []) (0 ∷ 1 ∷ 0 ∷ 0 ∷ []) (8 ∷ 9 ∷ 5 ∷ 6 ∷ 8 ∷ 9 ∷ 0 ∷ []) (0 ∷ 0 ∷ 0 ∷ 0 ∷ 0 ∷ 0 ∷ 7 ∷ 7 ∷ 8 ∷ 9 ∷ []);
       processor = 0;
       block = 3;
       seen = [];
@@ -920,11 +920,11 @@ rows =
     -- 2: memory too long, which a look is not lent
     ∷ lent (record {
       setup = board 2 2 2 5;
-      tables = tables (4 ∷ 3 ∷ 4 ∷ 0 ∷ []) (1 ∷ 2 ∷ 2 ∷ 0 ∷ []) (0 ∷ 1 ∷ 0 ∷ 0 ∷ []) (8 ∷ 9 ∷ 5 ∷ 6 ∷ 8 ∷ 9 ∷ 0 ∷ 0 ∷ []) (0 ∷ 0 ∷ 0 ∷ 0 ∷ 0 ∷ 0 ∷ 7 ∷ 7 ∷ 8 ∷ 9 ∷ 0 ∷ []);
       account = account 3 0 0 0;
       values = 9 ∷ [];
       runRefusal = 2;
       startRefusal = 2;
+      tables = tables (4 ∷ 3 ∷ 4 ∷ 0 ∷ []) (1 ∷ 2 ∷ 2 ∷ 0 ∷ []) (0 ∷ 1 ∷ 0 ∷ 0 ∷ []) (8 ∷ 9 ∷ 5 ∷ 6 ∷ 8 ∷ 9 ∷ 0 ∷ 0 ∷ []) (0 ∷ 0 ∷ 0 ∷ 0 ∷ 0 ∷ 0 ∷ 7 ∷ 7 ∷ 8 ∷ 9 ∷ 0 ∷ []);
       processor = 0;
       block = 3;
       seen = 5 ∷ 6 ∷ [];
@@ -932,11 +932,11 @@ rows =
     -- 1 before 2
     ∷ lent (record {
       setup = board 2 2 2 257;
-      tables = tables (4 ∷ 3 ∷ 4 ∷ 0 ∷ []) (1 ∷ 2 ∷ 2 ∷ 0 ∷ []) (0 ∷ 1 ∷ 0 ∷ 0 ∷ []) (8 ∷ 9 ∷ 5 ∷ 6 ∷ 8 ∷ 9 ∷ 0 ∷ 0 ∷ []) (0 ∷ 0 ∷ 0 ∷ 0 ∷ 0 ∷ 0 ∷ 7 ∷ 7 ∷ 8 ∷ 9 ∷ []);
       account = account 0 1 0 0;
       values = [];
       runRefusal = 1;
       startRefusal = 1;
+      tables = tables (4 ∷ 3 ∷ 4 ∷ 0 ∷ []) (1 ∷ 2 ∷ 2 ∷ 0 ∷ []) (0 ∷ 1 ∷ 0 ∷ 0 ∷ []) (8 ∷ 9 ∷ 5 ∷ 6 ∷ 8 ∷ 9 ∷ 0 ∷ 0 ∷ []) (0 ∷ 0 ∷ 0 ∷ 0 ∷ 0 ∷ 0 ∷ 7 ∷ 7 ∷ 8 ∷ 9 ∷ []);
       processor = 0;
       block = 3;
       seen = [];
