@@ -37,14 +37,14 @@ read i v = record { processor = i; operation = Read (record { 0 = v }) }
 abbrev pub write : ℕ → ℕ → ℕ → Request
 write i v x = record { processor = i; operation = Write (record { 0 = v }) x }
 
-abbrev pub fetch : ℕ → ℕ → Entry
-fetch i b = Fetch i (record { 0 = b })
+abbrev pub fetchEntry : ℕ → ℕ → Entry
+fetchEntry i b = Fetch i (record { 0 = b })
 
-abbrev pub writeBack : ℕ → ℕ → Entry
-writeBack i b = WriteBack i (record { 0 = b })
+abbrev pub writeBackEntry : ℕ → ℕ → Entry
+writeBackEntry i b = WriteBack i (record { 0 = b })
 
-abbrev pub drop : ℕ → ℕ → Entry
-drop i b = Drop i (record { 0 = b })
+abbrev pub dropEntry : ℕ → ℕ → Entry
+dropEntry i b = Drop i (record { 0 = b })
 
 -- requests, fetch, write-back and update cycles
 abbrev pub account : ℕ → ℕ → ℕ → ℕ → Account
@@ -711,6 +711,45 @@ rows =
       lines = copy 17 1 4 0 (0 ∷ 0 ∷ 0 ∷ 0 ∷ []) ∷ copy 25 9 4 0 (0 ∷ 6 ∷ 0 ∷ 0 ∷ []) ∷ [];
       memory = cell 37 6 ∷ [];
     })
+    -- a fetch brings p words and no more
+    ∷ session (record {
+      setup = usual;
+      before = write 0 41 5 ∷ read 1 41 ∷ read 0 8 ∷ [];
+      account = account 3 0 0 0;
+      requests = read 0 37 ∷ [];
+      values = 0 ∷ [];
+      answer = answered 1 0 0;
+      cost = cost 4 0 0;
+      changes = true;
+      lines = copy 1 9 4 0 (0 ∷ 0 ∷ 0 ∷ 0 ∷ []) ∷ copy 2 2 4 0 (0 ∷ 0 ∷ 0 ∷ 0 ∷ []) ∷ copy 10 10 4 0 (0 ∷ 5 ∷ 0 ∷ 0 ∷ []) ∷ [];
+      memory = cell 41 5 ∷ [];
+    })
+    -- a write-back takes p words and no more, and clears one mark
+    ∷ session (record {
+      setup = usual;
+      before = write 0 37 6 ∷ write 0 9 5 ∷ [];
+      account = account 2 0 0 0;
+      requests = read 0 5 ∷ [];
+      values = 0 ∷ [];
+      answer = answered 1 0 0;
+      cost = cost 4 4 0;
+      changes = true;
+      lines = copy 1 1 4 0 (0 ∷ 0 ∷ 0 ∷ 0 ∷ []) ∷ copy 2 2 4 1 (0 ∷ 5 ∷ 0 ∷ 0 ∷ []) ∷ [];
+      memory = cell 37 6 ∷ [];
+    })
+    -- a line that becomes empty is p words and no more
+    ∷ session (record {
+      setup = board 2 3 2 6;
+      before = read 0 6 ∷ read 1 6 ∷ write 1 9 5 ∷ write 0 7 1 ∷ [];
+      account = account 4 0 0 0;
+      requests = write 0 6 2 ∷ [];
+      values = 2 ∷ [];
+      answer = answered 1 0 0;
+      cost = cost 0 0 1;
+      changes = true;
+      lines = copy 0 3 2 0 (2 ∷ 1 ∷ []) ∷ copy 4 4 2 1 (0 ∷ 5 ∷ []) ∷ [];
+      memory = cell 6 2 ∷ cell 7 1 ∷ [];
+    })
     -- one processor: no other holder, ever
     ∷ session (record {
       setup = board 1 1 2 2;
@@ -945,7 +984,7 @@ rows =
     ∷ quote (record {
       setup = board 2 2 3 5;
       requests = write 1 10 5 ∷ [];
-      entries = fetch 1 3 ∷ Complete ∷ [];
+      entries = fetchEntry 1 3 ∷ Complete ∷ [];
       number = 0;
       place = 0;
       cost = 3;
@@ -957,7 +996,7 @@ rows =
     ∷ quote (record {
       setup = board 2 2 3 5;
       requests = write 1 10 5 ∷ [];
-      entries = fetch 1 3 ∷ Complete ∷ drop 1 3 ∷ [];
+      entries = fetchEntry 1 3 ∷ Complete ∷ dropEntry 1 3 ∷ [];
       number = 25;
       place = 2;
       cost = 0;
@@ -969,7 +1008,7 @@ rows =
     ∷ quote (record {
       setup = board 2 2 3 5;
       requests = write 1 10 5 ∷ [];
-      entries = fetch 1 3 ∷ Complete ∷ writeBack 1 3 ∷ drop 1 3 ∷ [];
+      entries = fetchEntry 1 3 ∷ Complete ∷ writeBackEntry 1 3 ∷ dropEntry 1 3 ∷ [];
       number = 0;
       place = 0;
       cost = 6;
@@ -981,7 +1020,7 @@ rows =
     ∷ quote (record {
       setup = board 2 2 3 5;
       requests = write 1 10 5 ∷ [];
-      entries = fetch 1 3 ∷ Complete ∷ writeBack 1 3 ∷ [];
+      entries = fetchEntry 1 3 ∷ Complete ∷ writeBackEntry 1 3 ∷ [];
       number = 0;
       place = 0;
       cost = 6;
@@ -993,7 +1032,7 @@ rows =
     ∷ quote (record {
       setup = board 2 2 3 5;
       requests = write 1 10 5 ∷ [];
-      entries = fetch 1 3 ∷ Complete ∷ fetch 0 3 ∷ [];
+      entries = fetchEntry 1 3 ∷ Complete ∷ fetchEntry 0 3 ∷ [];
       number = 0;
       place = 0;
       cost = 6;
@@ -1005,7 +1044,7 @@ rows =
     ∷ quote (record {
       setup = board 2 2 3 5;
       requests = write 1 10 5 ∷ [];
-      entries = fetch 1 3 ∷ Complete ∷ fetch 0 1 ∷ fetch 1 4 ∷ [];
+      entries = fetchEntry 1 3 ∷ Complete ∷ fetchEntry 0 1 ∷ fetchEntry 1 4 ∷ [];
       number = 0;
       place = 0;
       cost = 9;
@@ -1013,11 +1052,23 @@ rows =
       held = 0 ∷ 1 ∷ 1 ∷ 1 ∷ [];
       marks = 0 ∷ 0 ∷ 0 ∷ 1 ∷ [];
     })
+    -- a fetch leaves the mark of another block of the same line elsewhere
+    ∷ quote (record {
+      setup = board 2 2 3 5;
+      requests = write 0 4 5 ∷ [];
+      entries = fetchEntry 0 1 ∷ Complete ∷ fetchEntry 1 3 ∷ [];
+      number = 0;
+      place = 0;
+      cost = 6;
+      blocks = 0 ∷ 1 ∷ 0 ∷ 3 ∷ [];
+      held = 0 ∷ 1 ∷ 0 ∷ 1 ∷ [];
+      marks = 0 ∷ 1 ∷ 0 ∷ 0 ∷ [];
+    })
     -- a shared write costs 1 and marks nothing
     ∷ quote (record {
       setup = board 2 2 3 5;
       requests = write 1 10 5 ∷ [];
-      entries = fetch 1 3 ∷ fetch 0 3 ∷ Complete ∷ [];
+      entries = fetchEntry 1 3 ∷ fetchEntry 0 3 ∷ Complete ∷ [];
       number = 0;
       place = 0;
       cost = 7;
@@ -1029,7 +1080,7 @@ rows =
     ∷ quote (record {
       setup = board 2 2 3 5;
       requests = write 1 10 5 ∷ [];
-      entries = fetch 1 3 ∷ CompleteByBroadcast ∷ [];
+      entries = fetchEntry 1 3 ∷ CompleteByBroadcast ∷ [];
       number = 0;
       place = 0;
       cost = 4;
@@ -1041,7 +1092,7 @@ rows =
     ∷ quote (record {
       setup = board 2 2 3 5;
       requests = write 1 10 5 ∷ write 1 10 5 ∷ [];
-      entries = fetch 1 3 ∷ Complete ∷ CompleteByBroadcast ∷ [];
+      entries = fetchEntry 1 3 ∷ Complete ∷ CompleteByBroadcast ∷ [];
       number = 0;
       place = 0;
       cost = 4;
@@ -1053,7 +1104,7 @@ rows =
     ∷ quote (record {
       setup = board 2 2 3 5;
       requests = read 1 10 ∷ [];
-      entries = fetch 1 3 ∷ Complete ∷ [];
+      entries = fetchEntry 1 3 ∷ Complete ∷ [];
       number = 0;
       place = 0;
       cost = 3;
@@ -1065,7 +1116,7 @@ rows =
     ∷ quote (record {
       setup = board 2 2 3 5;
       requests = [];
-      entries = fetch 0 4 ∷ writeBack 0 4 ∷ [];
+      entries = fetchEntry 0 4 ∷ writeBackEntry 0 4 ∷ [];
       number = 0;
       place = 0;
       cost = 6;
@@ -1089,7 +1140,7 @@ rows =
     ∷ quote (record {
       setup = board 2 2 3 5;
       requests = [];
-      entries = fetch 1 3 ∷ drop 1 3 ∷ fetch 1 1 ∷ [];
+      entries = fetchEntry 1 3 ∷ dropEntry 1 3 ∷ fetchEntry 1 1 ∷ [];
       number = 0;
       place = 0;
       cost = 6;
@@ -1101,7 +1152,7 @@ rows =
     ∷ quote (record {
       setup = board 2 2 3 5;
       requests = [];
-      entries = fetch 1 3 ∷ fetch 1 3 ∷ [];
+      entries = fetchEntry 1 3 ∷ fetchEntry 1 3 ∷ [];
       number = 23;
       place = 1;
       cost = 0;
@@ -1113,7 +1164,7 @@ rows =
     ∷ quote (record {
       setup = board 2 2 3 5;
       requests = [];
-      entries = fetch 1 3 ∷ drop 1 1 ∷ [];
+      entries = fetchEntry 1 3 ∷ dropEntry 1 1 ∷ [];
       number = 24;
       place = 1;
       cost = 0;
@@ -1125,7 +1176,7 @@ rows =
     ∷ quote (record {
       setup = board 2 2 3 5;
       requests = [];
-      entries = fetch 1 3 ∷ writeBack 0 3 ∷ [];
+      entries = fetchEntry 1 3 ∷ writeBackEntry 0 3 ∷ [];
       number = 24;
       place = 1;
       cost = 0;
@@ -1137,7 +1188,7 @@ rows =
     ∷ quote (record {
       setup = board 2 2 3 5;
       requests = [];
-      entries = fetch 1 3 ∷ fetch 2 5 ∷ [];
+      entries = fetchEntry 1 3 ∷ fetchEntry 2 5 ∷ [];
       number = 3;
       place = 1;
       cost = 0;
@@ -1149,7 +1200,7 @@ rows =
     ∷ quote (record {
       setup = board 2 2 3 5;
       requests = [];
-      entries = drop 0 5 ∷ [];
+      entries = dropEntry 0 5 ∷ [];
       number = 8;
       place = 0;
       cost = 0;
@@ -1161,7 +1212,7 @@ rows =
     ∷ quote (record {
       setup = board 2 2 3 5;
       requests = write 1 10 5 ∷ [];
-      entries = fetch 1 3 ∷ Complete ∷ CompleteByBroadcast ∷ [];
+      entries = fetchEntry 1 3 ∷ Complete ∷ CompleteByBroadcast ∷ [];
       number = 26;
       place = 2;
       cost = 0;
@@ -1173,7 +1224,7 @@ rows =
     ∷ quote (record {
       setup = board 2 2 3 5;
       requests = read 2 15 ∷ [];
-      entries = fetch 1 3 ∷ Complete ∷ [];
+      entries = fetchEntry 1 3 ∷ Complete ∷ [];
       number = 3;
       place = 1;
       cost = 0;
@@ -1209,7 +1260,7 @@ rows =
     ∷ quote (record {
       setup = board 2 2 3 5;
       requests = read 0 10 ∷ [];
-      entries = fetch 1 3 ∷ Complete ∷ [];
+      entries = fetchEntry 1 3 ∷ Complete ∷ [];
       number = 27;
       place = 1;
       cost = 0;
@@ -1221,7 +1272,7 @@ rows =
     ∷ quote (record {
       setup = board 2 2 3 5;
       requests = write 1 10 5 ∷ [];
-      entries = fetch 1 3 ∷ [];
+      entries = fetchEntry 1 3 ∷ [];
       number = 28;
       place = 1;
       cost = 0;
@@ -1233,7 +1284,7 @@ rows =
     ∷ quote (record {
       setup = board 2 0 3 5;
       requests = write 1 10 5 ∷ [];
-      entries = fetch 1 3 ∷ [];
+      entries = fetchEntry 1 3 ∷ [];
       number = 1;
       place = 0;
       cost = 0;

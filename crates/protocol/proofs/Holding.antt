@@ -1,0 +1,64 @@
+-- What the tests of holding a block say, and what is known of the payer and of the owner.
+use Prim.Native.Nat.{ℕ, _/_, _%_, _≤_, _<_}
+use mathlib.Core.Path.{_≡_, sym, _∙_}
+use mathlib.Core.Logic.{_≢_}
+use mathlib.Core.Bool.{true, false, _&&_, true≢false}
+use borrow.Author.Tests.{ltb-true, eqb-true, lt-ltb, eq-eqb}
+use Rattle.protocol.specs.Board.{Fits, slot, lineOf}
+use Rattle.protocol.specs.Tables.{Tables, counter, block, mark, holdsAt, holds, marked}
+use Rattle.protocol.specs.Rules.{owner, payer}
+use Rattle.protocol.specs.declared.Setup.{Setup}
+use Rattle.protocol.specs.declared.Block.{Block}
+use Rattle.protocol.proofs.Laws.{both-true, and-true, first-holds, first-none, other-found, other-none, Another}
+use Rattle.protocol.proofs.Board.{block-path, block-number, slot-of}
+
+-- ---- a slot
+
+pub holdsAt-true : (t : Tables) (k : ℕ) (b : Block) → holdsAt t k b ≡ true → (0 < counter t k) × (block t k ≡ b)
+unfolding holdsAt
+holdsAt-true t k b e = let e′ = both-true _ _ e in (ltb-true _ _ (e′ .0), block-path (eqb-true _ _ (e′ .1)))
+
+pub true-holdsAt : (t : Tables) (k : ℕ) (b : Block) → 0 < counter t k → block t k ≡ b → holdsAt t k b ≡ true
+unfolding holdsAt
+true-holdsAt t k b h e = and-true (lt-ltb _ _ h) (eq-eqb _ _ (block-number e))
+
+pub holdsAt-false : (t : Tables) (k : ℕ) (b : Block) → holdsAt t k b ≡ false → 0 < counter t k → block t k ≢ b
+holdsAt-false t k b e h p = true≢false (sym (true-holdsAt t k b h p) ∙ e)
+
+-- ---- a processor
+
+pub holder-slot : (s : Setup) (t : Tables) (j : ℕ) (b : Block) → holds s t j b ≡ true → (0 < counter t (slot s j b)) × (block t (slot s j b) ≡ b)
+unfolding holds
+holder-slot s t j b e = holdsAt-true t (slot s j b) b e
+
+-- slot k, which holds b in its proper line, as a processor's
+pub slot-holder : (s : Setup) (ok : Fits s) (t : Tables) (k : ℕ) (b : Block) → k % s .lines ≡ lineOf s b → 0 < counter t k → block t k ≡ b
+    → (slot s (k / s .lines) b ≡ k) × (holds s t (k / s .lines) b ≡ true)
+unfolding holds
+slot-holder s ok t k b pr l e = let g = slot-of s ok k b pr in (g, rw g (true-holdsAt t k b l e))
+
+-- ---- the payer: another holder, or there is none
+
+pub payer-found : (s : Setup) (t : Tables) (i : ℕ) (b : Block) → payer s t i b < s .processors → Another i (λ j. holds s t j b) (payer s t i b)
+unfolding payer
+payer-found s t i b h = other-found (s .processors) i (λ j. holds s t j b) h
+
+pub payer-none : (s : Setup) (t : Tables) (i : ℕ) (b : Block) → s .processors ≤ payer s t i b
+    → (j : ℕ) → j < s .processors → j ≢ i → holds s t j b ≡ false
+unfolding payer
+payer-none s t i b h = other-none (s .processors) i (λ j. holds s t j b) h
+
+-- ---- the owner: a holder that is marked, or there is none
+
+pub owner-found : (s : Setup) (t : Tables) (b : Block) → owner s t b < s .processors
+    → (holds s t (owner s t b) b ≡ true) × (mark t (slot s (owner s t b) b) ≡ 1)
+unfolding owner marked
+owner-found s t b h =
+    let e = both-true _ _ (first-holds (s .processors) (λ j. holds s t j b && marked t (slot s j b)) h) in
+    (e .0, eqb-true _ _ (e .1))
+
+pub owner-none : (s : Setup) (t : Tables) (b : Block) → s .processors ≤ owner s t b
+    → (j : ℕ) → j < s .processors → holds s t j b ≡ true → mark t (slot s j b) ≢ 1
+unfolding owner marked
+owner-none s t b h j l e p =
+    true≢false (sym (and-true e (eq-eqb _ _ p)) ∙ first-none (s .processors) (λ j. holds s t j b && marked t (slot s j b)) h j l)

@@ -1,0 +1,143 @@
+-- Each rule keeps the tables' lengths, sound or not.
+use Prim.Native.Nat.{ℕ, zero, suc, _-_, _*_, _<_}
+use mathlib.Core.Path.{_≡_, refl, _∙_}
+use native.Mathlib.Omega.{arith}
+use lib.ListN.{length, set, length-set, length-replicate}
+use lib.Seq.{length-sets}
+use lib.Dec.{ltb, eqb}
+use Rattle.protocol.specs.Lists.{zeros}
+use Rattle.protocol.specs.Board.{variables, slots, slot, wordIndex, memoryIndex, offsetOf, fetchPrice}
+use Rattle.protocol.specs.Tables.{Tables, tables, Sized, fresh, counter, block, lineWords, memoryWords, holds, marked}
+use Rattle.protocol.specs.Rules.{writtenBack, emptied, filled, saved, evicted, owner, released, fetched, obtained, payer, writtenAlone, updatedCopies, broadcast, charged, written}
+use Rattle.protocol.specs.Requests.{served, readied, target, isWrite, variableOf, newValue}
+use Rattle.protocol.specs.declared.Setup.{Setup}
+use Rattle.protocol.specs.declared.Block.{Block}
+use Rattle.protocol.specs.declared.Request.{Request}
+use Rattle.protocol.proofs.Laws.{choice}
+
+pub sized-fresh : (s : Setup) → Sized s (fresh s)
+unfolding fresh
+sized-fresh s = record {
+  blocks = length-replicate (slots s) 0;
+  counters = length-replicate (slots s) 0;
+  marks = length-replicate (slots s) 0;
+  words = length-replicate (slots s * s .words) 0;
+  memory = length-replicate (variables s) 0;
+}
+
+pub length-updatedCopies : (s : Setup) (t : Tables) (b : Block) (o x n : ℕ) → length (updatedCopies s t b o x n) ≡ length (t .words)
+length-updatedCopies s t b o x zero = refl
+length-updatedCopies s t b o x (suc n) =
+    choice (λ z. length z ≡ length (t .words)) (holds s t n b)
+    (λ e. length-set (updatedCopies s t b o x n) (wordIndex s (slot s n b) o) x ∙ length-updatedCopies s t b o x n)
+    (λ e. length-updatedCopies s t b o x n)
+
+-- ---- each part of a step
+
+module _ (s : Setup) (t : Tables) (z : Sized s t) where
+  -- a slot's index is in range
+  pub in-slots : (k : ℕ) → k < slots s → (k < length (t .blocks)) × (k < length (t .counters)) × (k < length (t .marks))
+  in-slots k h = (omega (arith, z .blocks), omega (arith, z .counters), omega (arith, z .marks))
+
+  pub sized-writtenBack : (k : ℕ) → Sized s (writtenBack s t k)
+  unfolding writtenBack
+  sized-writtenBack k = record {
+    blocks = z .blocks;
+    counters = z .counters;
+    marks = length-set (t .marks) k 0 ∙ z .marks;
+    words = z .words;
+    memory = length-sets (t .memory) (memoryIndex s (block t k) 0) (lineWords s t k) ∙ z .memory;
+  }
+
+  pub sized-emptied : (k : ℕ) → Sized s (emptied s t k)
+  unfolding emptied
+  sized-emptied k = record {
+    blocks = length-set (t .blocks) k 0 ∙ z .blocks;
+    counters = length-set (t .counters) k 0 ∙ z .counters;
+    marks = length-set (t .marks) k 0 ∙ z .marks;
+    words = length-sets (t .words) (wordIndex s k 0) (zeros (s .words)) ∙ z .words;
+    memory = z .memory;
+  }
+
+  pub sized-filled : (k : ℕ) (b : Block) → Sized s (filled s t k b)
+  unfolding filled
+  sized-filled k b = record {
+    blocks = length-set (t .blocks) k (b .0) ∙ z .blocks;
+    counters = length-set (t .counters) k (fetchPrice s) ∙ z .counters;
+    marks = length-set (t .marks) k 0 ∙ z .marks;
+    words = length-sets (t .words) (wordIndex s k 0) (memoryWords s t b) ∙ z .words;
+    memory = z .memory;
+  }
+
+  pub sized-saved : (k : ℕ) → Sized s (saved s t k)
+  unfolding saved
+  sized-saved k = choice (Sized s) (marked t k) (λ e. sized-writtenBack k) (λ e. z)
+
+  pub sized-released : (b : Block) → Sized s (released s t b)
+  unfolding released
+  sized-released b = choice (Sized s) (ltb (owner s t b) (s .processors)) (λ e. sized-writtenBack (slot s (owner s t b) b)) (λ e. z)
+
+  pub sized-writtenAlone : (k o x : ℕ) → Sized s (writtenAlone s t k o x)
+  unfolding writtenAlone
+  sized-writtenAlone k o x = record {
+    blocks = z .blocks;
+    counters = length-set (t .counters) k (fetchPrice s) ∙ z .counters;
+    marks = length-set (t .marks) k 1 ∙ z .marks;
+    words = length-set (t .words) (wordIndex s k o) x ∙ z .words;
+    memory = z .memory;
+  }
+
+  pub sized-broadcast : (k : ℕ) (b : Block) (o x : ℕ) → Sized s (broadcast s t k b o x)
+  unfolding broadcast
+  sized-broadcast k b o x = record {
+    blocks = z .blocks;
+    counters = length-set (t .counters) k (fetchPrice s) ∙ z .counters;
+    marks = z .marks;
+    words = length-updatedCopies s t b o x (s .processors) ∙ z .words;
+    memory = length-set (t .memory) (memoryIndex s b o) x ∙ z .memory;
+  }
+
+  -- a counter changes
+  pub sized-recounted : (k x : ℕ) → Sized s (tables (t .blocks) (set (t .counters) k x) (t .marks) (t .words) (t .memory))
+  sized-recounted k x = record {
+    blocks = z .blocks;
+    counters = length-set (t .counters) k x ∙ z .counters;
+    marks = z .marks;
+    words = z .words;
+    memory = z .memory;
+  }
+
+  pub sized-charged : (k : ℕ) → Sized s (charged s t k)
+  unfolding charged
+  sized-charged k = choice (Sized s) (eqb (counter t k) 1) (λ e. sized-emptied k) (λ e. sized-recounted k (counter t k - 1))
+
+-- ---- a step
+
+module _ (s : Setup) (t : Tables) (z : Sized s t) where
+  pub sized-evicted : (k : ℕ) → Sized s (evicted s t k)
+  unfolding evicted
+  sized-evicted k = sized-emptied s (saved s t k) (sized-saved s t z k) k
+
+  pub sized-fetched : (k : ℕ) (b : Block) → Sized s (fetched s t k b)
+  unfolding fetched
+  sized-fetched k b = sized-filled s (released s t b) (sized-released s t z b) k b
+
+  pub sized-written : (i : ℕ) (b : Block) (o x : ℕ) → Sized s (written s t i b o x)
+  unfolding written
+  sized-written i b o x =
+      choice (Sized s) (ltb (payer s t i b) (s .processors))
+      (λ e. sized-charged s (broadcast s t (slot s i b) b o x) (sized-broadcast s t z (slot s i b) b o x) (slot s (payer s t i b) b))
+      (λ e. sized-writtenAlone s t z (slot s i b) o x)
+
+pub sized-obtained : (s : Setup) (t : Tables) → Sized s t → (i : ℕ) (b : Block) → Sized s (obtained s t i b)
+unfolding obtained
+sized-obtained s t z i b =
+    choice (Sized s) (holds s t i b) (λ e. z)
+    (λ e. sized-fetched s (evicted s t (slot s i b)) (sized-evicted s t z (slot s i b)) (slot s i b) b)
+
+pub sized-served : (s : Setup) (t : Tables) → Sized s t → (q : Request) → Sized s (served s t q)
+unfolding served
+sized-served s t z q =
+    let z′ = sized-obtained s t z (q .processor) (target s q) in
+    choice (Sized s) (isWrite q)
+    (λ e. sized-written s (readied s t q) z′ (q .processor) (target s q) (offsetOf s (variableOf q)) (newValue q)) (λ e. z′)
