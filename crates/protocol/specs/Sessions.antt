@@ -908,6 +908,18 @@ rows =
       block = 0;
       seen = [];
     })
+    -- a look where a line has more words than a cache has lines
+    ∷ lent (record {
+      setup = board 1 2 3 2;
+      tables = tables (0 ∷ 1 ∷ []) (3 ∷ 2 ∷ []) (0 ∷ 0 ∷ []) (1 ∷ 2 ∷ 3 ∷ 4 ∷ 5 ∷ 6 ∷ []) (1 ∷ 2 ∷ 3 ∷ 4 ∷ 5 ∷ 6 ∷ []);
+      account = account 3 0 0 0;
+      values = 9 ∷ [];
+      runRefusal = 3;
+      startRefusal = 0;
+      processor = 0;
+      block = 1;
+      seen = 4 ∷ 5 ∷ 6 ∷ [];
+    })
     -- 2: block numbers too long
     ∷ lent (record {
       setup = board 2 2 2 5;
