@@ -2,10 +2,9 @@
 use Prim.Native.Nat.{ℕ, _+_, _*_, _/_, _%_, _≤_, _<_}
 use mathlib.Core.Path.{_≡_, refl, sym, ap, _∙_}
 use mathlib.Core.Logic.{_≢_}
-use mathlib.Core.Bool.{Bool, true, false, _&&_, cond, true≢false}
+use mathlib.Core.Bool.{Bool, true, true≢false}
 use native.Mathlib.Omega.{arith}
 use native.Mathlib.Nat.{mod-lt, div-add-mod'}
-use lib.ListN.{length}
 use lib.Dec.{leb, ltb, eqb}
 use borrow.Author.Tests.{ltb-true, leb-true, eqb-true, eqb-false, lt-ltb, le-leb, eq-eqb, ne-eqb}
 use Rattle.protocol.specs.Lists.{at, all, other}
@@ -15,12 +14,15 @@ use Rattle.protocol.specs.Soundness.{LineAt, Sound, emptyLine, copyLine,
 use Rattle.protocol.specs.declared.Setup.{Setup}
 use Rattle.protocol.specs.declared.Block.{Block}
 use Rattle.protocol.proofs.Laws.{Same, same, apart, same?, Under, under, over, under?, choice, chosen, both-true, three-true, four-true, and-true, all-true, true-all, other-found, other-none}
-use Rattle.protocol.proofs.Board.{block-number, row-lt, row-mod, slot-lt, slot-inj, slot-of, processor-lt}
+use Rattle.protocol.proofs.Board.{row-lt, row-mod, slot-lt, slot-inj, slot-of, processor-lt}
 use Rattle.protocol.proofs.Holding.{holder-slot, slot-holder}
 
 pub sized-passes : (s : Setup) (t : Tables) → Sized s t → sized s t ≡ true
 unfolding sized
-sized-passes s t sh = and-true (and-true (and-true (and-true (eq-eqb _ _ (sh .blocks)) (eq-eqb _ _ (sh .counters))) (eq-eqb _ _ (sh .marks))) (eq-eqb _ _ (sh .words))) (eq-eqb _ _ (sh .memory))
+sized-passes s t z =
+    and-true
+    (and-true (and-true (and-true (eq-eqb _ _ (z .blocks)) (eq-eqb _ _ (z .counters))) (eq-eqb _ _ (z .marks))) (eq-eqb _ _ (z .words)))
+    (eq-eqb _ _ (z .memory))
 
 pub passed-sized : (s : Setup) (t : Tables) → sized s t ≡ true → Sized s t
 unfolding sized
@@ -29,7 +31,13 @@ passed-sized s t e =
     let e3 = both-true _ _ (e4 .0) in
     let e2 = both-true _ _ (e3 .0) in
     let e1 = both-true _ _ (e2 .0) in
-    record { blocks = eqb-true _ _ (e1 .0); counters = eqb-true _ _ (e1 .1); marks = eqb-true _ _ (e2 .1); words = eqb-true _ _ (e3 .1); memory = eqb-true _ _ (e4 .1) }
+    record {
+      blocks = eqb-true _ _ (e1 .0);
+      counters = eqb-true _ _ (e1 .1);
+      marks = eqb-true _ _ (e2 .1);
+      words = eqb-true _ _ (e3 .1);
+      memory = eqb-true _ _ (e4 .1);
+    }
 
 -- ---- sound tables pass
 
@@ -96,49 +104,58 @@ sound-passes s ok t sd = true-all (s .processors) _ (λ i hi. true-all (s .lines
 -- ---- tables that pass are sound
 
 module _ (s : Setup) (ok : Fits s) (t : Tables) (e : sound s t ≡ true) (k : ℕ) (h : k < slots s) where
-  line-passed : soundLine s t (k / s .lines) (k % s .lines) k ≡ true
+  -- its processor and its line
+  abbrev i : ℕ
+  i = k / s .lines
+
+  abbrev l : ℕ
+  l = k % s .lines
+
+  -- the tests of an empty line's words, of an unmarked copy's, and for no other holder
+  abbrev blank : Bool
+  blank = all (s .words) (λ o. eqb (word s t k o) 0)
+
+  abbrev equal : Bool
+  equal = all (s .words) (λ o. eqb (word s t k o) (memoryWord s t (block t k) o))
+
+  abbrev alone : Bool
+  alone = leb (s .processors) (other (s .processors) i (λ j. holds s t j (block t k)))
+
+  line-passed : soundLine s t i l k ≡ true
   unfolding sound
   line-passed =
       rw (div-add-mod' k (s .lines)) at
-      (all-true (s .lines) (λ l. soundLine s t (k / s .lines) l (k / s .lines * s .lines + l))
-      (all-true (s .processors) (λ i. all (s .lines) (λ l. soundLine s t i l (i * s .lines + l))) e (k / s .lines) (processor-lt s ok k h)) (k % s .lines) (mod-lt k (ok .some-line)))
+      (all-true (s .lines) (λ l. soundLine s t i l (i * s .lines + l))
+      (all-true (s .processors) (λ i. all (s .lines) (λ l. soundLine s t i l (i * s .lines + l))) e i (processor-lt s ok k h)) l (mod-lt k (ok .some-line)))
 
-  passed-empty : counter t k ≡ 0 → emptyLine s t k ≡ true
-  unfolding soundLine
-  passed-empty z = chosen (eqb (counter t k) 0) _ _ line-passed .0 (eq-eqb _ _ z)
-
-  passed-copy : 0 < counter t k → leb (counter t k) (fetchPrice s) && ltb (block t k .0) (s .blocks) && eqb (lineOf s (block t k)) (k % s .lines) && copyLine s t (k / s .lines) k ≡ true
-  unfolding soundLine
-  passed-copy l = chosen (eqb (counter t k) 0) _ _ line-passed .1 (ne-eqb (counter t k) 0 (λ (z : counter t k ≡ 0). omega arith))
-
-  empty-parts : counter t k ≡ 0 → eqb (block t k .0) 0 && eqb (mark t k) 0 && all (s .words) (λ o. eqb (word s t k o) 0) ≡ true
-  unfolding emptyLine
-  empty-parts z = passed-empty z
-
-  empties : counter t k ≡ 0 → (eqb (block t k .0) 0 ≡ true) × (eqb (mark t k) 0 ≡ true) × (all (s .words) (λ o. eqb (word s t k o) 0) ≡ true)
-  empties z = three-true (eqb (block t k .0) 0) (eqb (mark t k) 0) (all (s .words) (λ o. eqb (word s t k o) 0)) (empty-parts z)
+  empties : counter t k ≡ 0 → (eqb (block t k .0) 0 ≡ true) × (eqb (mark t k) 0 ≡ true) × (blank ≡ true)
+  unfolding soundLine emptyLine
+  empties z = three-true (eqb (block t k .0) 0) (eqb (mark t k) 0) blank (chosen (eqb (counter t k) 0) _ _ line-passed .0 (eq-eqb _ _ z))
 
   no-mark′ : counter t k ≡ 0 → mark t k ≡ 0
   no-mark′ z = eqb-true _ _ (empties z .1)
 
-  helds : 0 < counter t k → (leb (counter t k) (fetchPrice s) ≡ true) × (ltb (block t k .0) (s .blocks) ≡ true) × (eqb (lineOf s (block t k)) (k % s .lines) ≡ true) × (copyLine s t (k / s .lines) k ≡ true)
-  helds l = four-true (leb (counter t k) (fetchPrice s)) (ltb (block t k .0) (s .blocks)) (eqb (lineOf s (block t k)) (k % s .lines)) (copyLine s t (k / s .lines) k) (passed-copy l)
+  helds : 0 < counter t k
+      → (leb (counter t k) (fetchPrice s) ≡ true) × (ltb (block t k .0) (s .blocks) ≡ true) × (eqb (lineOf s (block t k)) l ≡ true) × (copyLine s t i k ≡ true)
+  unfolding soundLine
+  helds p =
+      four-true (leb (counter t k) (fetchPrice s)) (ltb (block t k .0) (s .blocks)) (eqb (lineOf s (block t k)) l) (copyLine s t i k)
+      (chosen (eqb (counter t k) 0) _ _ line-passed .1 (ne-eqb (counter t k) 0 (λ (z : counter t k ≡ 0). omega arith)))
 
   passed-proper : 0 < counter t k → k % s .lines ≡ lineOf s (block t k)
-  passed-proper l = sym (eqb-true _ _ (helds l .2))
+  passed-proper p = sym (eqb-true _ _ (helds p .2))
 
-  -- the two kinds of a held line
-  copy-parts : 0 < counter t k
-      → (eqb (mark t k) 0 ≡ true → all (s .words) (λ o. eqb (word s t k o) (memoryWord s t (block t k) o)) ≡ true)
-      × (eqb (mark t k) 0 ≡ false → eqb (mark t k) 1 && eqb (counter t k) (fetchPrice s) && leb (s .processors) (other (s .processors) (k / s .lines) (λ j. holds s t j (block t k))) ≡ true)
-  unfolding copyLine
-  copy-parts l = chosen (eqb (mark t k) 0) _ _ (helds l .3)
-
+  -- an unmarked copy, and a marked one
   passed-clean : 0 < counter t k → mark t k ≡ 0 → (o : ℕ) → o < s .words → word s t k o ≡ memoryWord s t (block t k) o
-  passed-clean l z o u = eqb-true _ _ (all-true (s .words) (λ o. eqb (word s t k o) (memoryWord s t (block t k) o)) (copy-parts l .0 (eq-eqb _ _ z)) o u)
+  unfolding copyLine
+  passed-clean p z o u =
+      eqb-true _ _
+      (all-true (s .words) (λ o. eqb (word s t k o) (memoryWord s t (block t k) o)) (chosen (eqb (mark t k) 0) equal _ (helds p .3) .0 (eq-eqb _ _ z)) o u)
 
-  marks : 0 < counter t k → mark t k ≢ 0 → (eqb (mark t k) 1 ≡ true) × (eqb (counter t k) (fetchPrice s) ≡ true) × (leb (s .processors) (other (s .processors) (k / s .lines) (λ j. holds s t j (block t k))) ≡ true)
-  marks l d = three-true (eqb (mark t k) 1) (eqb (counter t k) (fetchPrice s)) (leb (s .processors) (other (s .processors) (k / s .lines) (λ j. holds s t j (block t k)))) (copy-parts l .1 (ne-eqb _ _ d))
+  marks : 0 < counter t k → mark t k ≢ 0 → (eqb (mark t k) 1 ≡ true) × (eqb (counter t k) (fetchPrice s) ≡ true) × (alone ≡ true)
+  unfolding copyLine
+  marks p d =
+      three-true (eqb (mark t k) 1) (eqb (counter t k) (fetchPrice s)) alone (chosen (eqb (mark t k) 0) equal _ (helds p .3) .1 (ne-eqb _ _ d))
 
   marked-pos : mark t k ≢ 0 → 0 < counter t k
   marked-pos d = go (same? (counter t k) 0)

@@ -5,7 +5,7 @@ use native.Mathlib.Omega.{arith}
 use lib.ListN.{length, set, length-set, length-replicate}
 use lib.Seq.{length-sets}
 use lib.Dec.{ltb, eqb}
-use Rattle.protocol.specs.Lists.{zeros}
+use Rattle.protocol.specs.Lists.{at, zeros}
 use Rattle.protocol.specs.Board.{variables, slots, slot, wordIndex, memoryIndex, offsetOf, fetchPrice}
 use Rattle.protocol.specs.Tables.{Tables, tables, Sized, fresh, counter, block, lineWords, memoryWords, holds, marked}
 use Rattle.protocol.specs.Rules.{writtenBack, emptied, filled, saved, evicted, owner, released, fetched, obtained, payer, writtenAlone, updatedCopies, broadcast, charged, written}
@@ -13,7 +13,7 @@ use Rattle.protocol.specs.Requests.{served, readied, target, isWrite, va
 use Rattle.protocol.specs.declared.Setup.{Setup}
 use Rattle.protocol.specs.declared.Block.{Block}
 use Rattle.protocol.specs.declared.Request.{Request}
-use Rattle.protocol.proofs.Laws.{choice}
+use Rattle.protocol.proofs.Laws.{choice, at-set-same}
 
 pub sized-fresh : (s : Setup) → Sized s (fresh s)
 unfolding fresh
@@ -38,6 +38,16 @@ module _ (s : Setup) (t : Tables) (z : Sized s t) where
   -- a slot's index is in range
   pub in-slots : (k : ℕ) → k < slots s → (k < length (t .blocks)) × (k < length (t .counters)) × (k < length (t .marks))
   in-slots k h = (omega (arith, z .blocks), omega (arith, z .counters), omega (arith, z .marks))
+
+  -- what is stored at a slot is read there
+  pub block-stored : (k x : ℕ) → k < slots s → at (set (t .blocks) k x) k ≡ x
+  block-stored k x h = at-set-same (t .blocks) k x (in-slots k h .0)
+
+  pub counter-stored : (k x : ℕ) → k < slots s → at (set (t .counters) k x) k ≡ x
+  counter-stored k x h = at-set-same (t .counters) k x (in-slots k h .1)
+
+  pub mark-stored : (k x : ℕ) → k < slots s → at (set (t .marks) k x) k ≡ x
+  mark-stored k x h = at-set-same (t .marks) k x (in-slots k h .2)
 
   pub sized-writtenBack : (k : ℕ) → Sized s (writtenBack s t k)
   unfolding writtenBack

@@ -1,14 +1,14 @@
 -- A request touches only its line: slots of other lines, and blocks of other lines in main memory, stay as they are.
-use Prim.Native.Nat.{ℕ, zero, suc, _-_, _%_, _≤_, _<_}
+use Prim.Native.Nat.{ℕ, zero, suc, _-_, _%_, _<_}
 use mathlib.Core.Path.{_≡_, refl, sym, ap, _∙_}
 use mathlib.Core.Logic.{_≢_}
 use mathlib.Core.Bool.{true}
 use native.Mathlib.Omega.{arith}
-use lib.ListN.{length, length-replicate}
+use lib.ListN.{length-replicate}
 use lib.Dec.{ltb, eqb}
 use borrow.Author.Tests.{ltb-true, eqb-true}
 use Rattle.protocol.specs.Lists.{at, zeros}
-use Rattle.protocol.specs.Board.{Fits, slots, slot, lineOf, wordIndex, memoryIndex, offsetOf, fetchPrice}
+use Rattle.protocol.specs.Board.{Fits, slot, lineOf, wordIndex, memoryIndex, offsetOf, fetchPrice}
 use Rattle.protocol.specs.Tables.{Tables, counter, block, mark, word, memoryWord, lineWords, memoryWords, holds, marked}
 use Rattle.protocol.specs.Soundness.{Sound}
 use Rattle.protocol.specs.Rules.{writtenBack, emptied, filled, saved, evicted, owner, released, fetched, obtained, payer, writtenAlone, updatedCopies, broadcast, charged, written}
@@ -126,15 +126,19 @@ module _ (s : Setup) (ok : Fits s) (t : Tables) (b : Block) where
     counters = λ m d. at-set-other (t .counters) (slot s i b) (fetchPrice s) m (λ y. d (ap (λ z. z % s .lines) y ∙ slot-proper s ok i b));
     marks = λ m d. refl;
     words = λ m u d h. updatedCopies-local o x (s .processors) m u ho h d;
-    memory = λ c u d h. at-set-other (t .memory) (memoryIndex s b o) x (memoryIndex s c u) (λ y. d (ap (lineOf s) (block-path {b = c} {c = b} (wordIndex-inj s ok (c .0) (b .0) u o h ho y .0))));
+    memory = λ c u d h. at-set-other (t .memory) (memoryIndex s b o) x (memoryIndex s c u) (λ y. d (ap (lineOf s) (one-block c u h y)));
   }
+    where
+      one-block : (c : Block) (u : ℕ) → u < s .words → memoryIndex s c u ≡ memoryIndex s b o → c ≡ b
+      one-block c u h y = block-path (wordIndex-inj s ok (c .0) (b .0) u o h ho y .0)
 
   pub local-released : Local s (lineOf s b) t (released s t b)
   unfolding released
   local-released =
       choice (Local s (lineOf s b) t) (ltb (owner s t b) (s .processors))
       (λ e. let w = owner-found s t b (ltb-true _ _ e) in
-      local-writtenBack s (lineOf s b) t (slot s (owner s t b) b) (slot-proper s ok (owner s t b) b) (ap (lineOf s) (holder-slot s t (owner s t b) b (w .0) .1)))
+      local-writtenBack s (lineOf s b) t (slot s (owner s t b) b) (slot-proper s ok (owner s t b) b)
+      (ap (lineOf s) (holder-slot s t (owner s t b) b (w .0) .1)))
       (λ e. local-refl s (lineOf s b) t)
 
 -- ---- a step

@@ -9,5 +9,4 @@ pub mod Accounts
 pub mod Runs
 pub mod Rival
 pub mod Pricer
-pub mod Claims
 pub mod Sessions

@@ -1,0 +1,459 @@
+-- Every legal schedule pays for what the engine is charged, for any potential.
+use Prim.Native.Nat.{ℕ, _+_, _-_, _≤_, _<_}
+use mathlib.Core.Path.{_≡_, refl, sym, ap, _∙_}
+use mathlib.Core.Logic.{_≢_}
+use mathlib.Core.Bool.{Bool, true, false, not, _&&_, cond, true≢false}
+use mathlib.Core.List.{List, [], _∷_}
+use native.Mathlib.Omega.{arith}
+use native.Mathlib.Nat.{le-refl}
+use lib.ListN.{length, set, length-set}
+use lib.Dec.{ltb, eqb}
+use borrow.Author.Tests.{ltb-true, eqb-true, eq-eqb}
+use Rattle.protocol.specs.Lists.{at}
+use Rattle.protocol.specs.Refusals.{noRefusal, noSuchProcessor, noSuchVariable, noSuchBlock, readByBroadcast, lineInUse, blockNotHeld, dropOfMarked, completionNotHeld}
+use Rattle.protocol.specs.Board.{Fits, variables, slots, slot, offsetOf, fetchPrice}
+use Rattle.protocol.specs.Tables.{Tables, Sized, counter, block, holdsAt, holds, marked}
+use Rattle.protocol.specs.Soundness.{Sound}
+use Rattle.protocol.specs.Rules.{writtenBack, emptied, filled, saved, evicted, owner, released, fetched, obtained, payer, writtenAlone, broadcast, charged, written}
+use Rattle.protocol.specs.Requests.{served, target, isWrite, variableOf, newValue}
+use Rattle.protocol.specs.Rival.{Rival, keepsAt, keeps, shared, rivalFetched, rivalWrittenBack, rivalDropped, rivalCompleted, completionCycles, moveRefusal, completionRefusal, Legal, costs}
+use Rattle.protocol.specs.declared.Setup.{Setup}
+use Rattle.protocol.specs.declared.Block.{Block}
+use Rattle.protocol.specs.declared.Request.{Request}
+use Rattle.protocol.specs.declared.Bill.{Bill}
+use Rattle.protocol.specs.declared.Entry.{Entry}
+use Rattle.protocol.specs.declared.Entry.the-variants.{Fetch, WriteBack, Drop, Complete, CompleteByBroadcast}
+use Rattle.protocol.proofs.Laws.{Known, sure, not-so, known, choice, chosen-zero, chosen-other, agree, both-true, and-true, other-some, at-set-same, at-set-other}
+use Rattle.protocol.proofs.Board.{block-path, block-number, slot-lt, slot-inj, offset-lt}
+use Rattle.protocol.proofs.Holding.{holdsAt-false, holder-slot, payer-found}
+use Rattle.protocol.proofs.Lengths.{block-stored, counter-stored, sized-evicted, sized-released, sized-broadcast}
+use Rattle.competitive.proofs.Sums.{sum, sum-one}
+use Rattle.competitive.proofs.StepSound.{Valid, target-lt, sound-obtained, obtained-holds, sound-served}
+use Rattle.competitive.proofs.Potential.{Potential}
+
+-- what a schedule pays for fetches and completions
+abbrev pub paidFor : Bill → ℕ
+paidFor c = c .fetch + c .update
+
+-- ---- the rival's copies, and its tables' lengths
+
+abbrev pub held : Rival → ℕ → ℕ
+held r k = at (r .held) k
+
+abbrev pub copy : Rival → ℕ → ℕ
+copy r k = at (r .blocks) k
+
+pub record RivalSized (s : Setup) (r : Rival) : Type 0 where
+  pub blocks : length (r .blocks) ≡ slots s
+  pub held : length (r .held) ≡ slots s
+
+-- ---- counters and block numbers after each part of a step
+
+pub released-counters : (s : Setup) (t : Tables) (b : Block) → released s t b .counters ≡ t .counters
+unfolding released writtenBack
+released-counters s t b = agree (λ (z : Tables). z .counters) (ltb (owner s t b) (s .processors)) {x = writtenBack s t (slot s (owner s t b) b)} {y = t} refl
+
+pub released-blocks : (s : Setup) (t : Tables) (b : Block) → released s t b .blocks ≡ t .blocks
+unfolding released writtenBack
+released-blocks s t b = agree (λ (z : Tables). z .blocks) (ltb (owner s t b) (s .processors)) {x = writtenBack s t (slot s (owner s t b) b)} {y = t} refl
+
+pub evicted-counter : (s : Setup) (t : Tables) (k m : ℕ) → m ≢ k → counter (evicted s t k) m ≡ counter t m
+unfolding evicted emptied saved writtenBack
+evicted-counter s t k m d =
+    at-set-other (saved s t k .counters) k 0 m d
+    ∙ ap (λ l. at l m) (agree (λ (z : Tables). z .counters) (marked t k) {x = writtenBack s t k} {y = t} refl)
+
+pub evicted-block : (s : Setup) (t : Tables) (k m : ℕ) → m ≢ k → block (evicted s t k) m .0 ≡ block t m .0
+unfolding evicted emptied saved writtenBack
+evicted-block s t k m d =
+    at-set-other (saved s t k .blocks) k 0 m d
+    ∙ ap (λ l. at l m) (agree (λ (z : Tables). z .blocks) (marked t k) {x = writtenBack s t k} {y = t} refl)
+
+-- the engine's slots after a fetch into k
+module _ (s : Setup) (t : Tables) (z : Sized s t) (k : ℕ) (b : Block) (h : k < slots s) where
+  lengths₁ : Sized s (released s (evicted s t k) b)
+  lengths₁ = sized-released s (evicted s t k) (sized-evicted s t z k) b
+
+  pub refetched-counter-same : counter (fetched s (evicted s t k) k b) k ≡ fetchPrice s
+  unfolding fetched filled
+  refetched-counter-same = counter-stored s (released s (evicted s t k) b) lengths₁ k (fetchPrice s) h
+
+  pub refetched-block-same : block (fetched s (evicted s t k) k b) k .0 ≡ b .0
+  unfolding fetched filled
+  refetched-block-same = block-stored s (released s (evicted s t k) b) lengths₁ k (b .0) h
+
+  pub refetched-counter : (m : ℕ) → m ≢ k → counter (fetched s (evicted s t k) k b) m ≡ counter t m
+  unfolding fetched filled
+  refetched-counter m d =
+      at-set-other (released s (evicted s t k) b .counters) k (fetchPrice s) m d
+      ∙ ap (λ l. at l m) (released-counters s (evicted s t k) b) ∙ evicted-counter s t k m d
+
+  pub refetched-block : (m : ℕ) → m ≢ k → block (fetched s (evicted s t k) k b) m .0 ≡ block t m .0
+  unfolding fetched filled
+  refetched-block m d =
+      at-set-other (released s (evicted s t k) b .blocks) k (b .0) m d
+      ∙ ap (λ l. at l m) (released-blocks s (evicted s t k) b) ∙ evicted-block s t k m d
+
+-- the slots after a counter falls
+module _ (s : Setup) (t : Tables) (z : Sized s t) (k : ℕ) (h : k < slots s) where
+  pub charged-counter-same : counter (charged s t k) k ≡ counter t k - 1
+  unfolding charged emptied
+  charged-counter-same =
+      choice (λ z. counter z k ≡ counter t k - 1) (eqb (counter t k) 1)
+      (λ e. counter-stored s t z k 0 h ∙ omega (arith, eqb-true (counter t k) 1 e))
+      (λ e. counter-stored s t z k (counter t k - 1) h)
+
+  pub charged-counter : (m : ℕ) → m ≢ k → counter (charged s t k) m ≡ counter t m
+  unfolding charged emptied
+  charged-counter m d =
+      choice (λ z. counter z m ≡ counter t m) (eqb (counter t k) 1)
+      (λ e. at-set-other (t .counters) k 0 m d) (λ e. at-set-other (t .counters) k (counter t k - 1) m d)
+
+  pub charged-block-same : 0 < counter t k - 1 → block (charged s t k) k .0 ≡ block t k .0
+  unfolding charged emptied
+  charged-block-same l =
+      choice (λ z. block z k .0 ≡ block t k .0) (eqb (counter t k) 1)
+      (λ e. absurd (omega (arith, l, eqb-true (counter t k) 1 e))) (λ e. refl)
+
+  pub charged-block : (m : ℕ) → m ≢ k → block (charged s t k) m .0 ≡ block t m .0
+  unfolding charged emptied
+  charged-block m d =
+      choice (λ z. block z m .0 ≡ block t m .0) (eqb (counter t k) 1) (λ e. at-set-other (t .blocks) k 0 m d) (λ e. refl)
+
+-- ---- the rival's tests
+
+pub keepsAt-true : (r : Rival) (k : ℕ) (b : Block) → keepsAt r k b ≡ true → (held r k ≡ 1) × (copy r k ≡ b .0)
+unfolding keepsAt
+keepsAt-true r k b e = let e′ = both-true _ _ e in (eqb-true _ _ (e′ .0), eqb-true _ _ (e′ .1))
+
+pub true-keepsAt : (r : Rival) (k : ℕ) (b : Block) → held r k ≡ 1 → copy r k ≡ b .0 → keepsAt r k b ≡ true
+unfolding keepsAt
+true-keepsAt r k b h e = and-true (eq-eqb _ _ h) (eq-eqb _ _ e)
+
+-- a second copy makes the block shared
+pub shared-some : (s : Setup) (r : Rival) (i j : ℕ) (b : Block) → j < s .processors → j ≢ i → keepsAt r (slot s j b) b ≡ true → shared s r i b ≡ true
+unfolding shared keeps
+shared-some s r i j b l d e = other-some (s .processors) i (λ j. keepsAt r (slot s j b) b) j l d e
+
+-- ---- what the engine is charged
+
+-- F for a fetch, W for a write-back
+unfoldable pub obtainedCharge : ℕ → ℕ → Setup → Tables → ℕ → Block → ℕ
+obtainedCharge F W s t i b = cond (holds s t i b) 0 (F + cond (marked t (slot s i b)) W 0)
+
+-- U for an update
+unfoldable pub writtenCharge : ℕ → Setup → Tables → ℕ → Block → ℕ
+writtenCharge U s t i b = cond (ltb (payer s t i b) (s .processors)) U 0
+
+unfoldable pub charge : ℕ → ℕ → ℕ → Setup → Tables → Request → ℕ
+charge F W U s t q =
+    obtainedCharge F W s t (q .processor) (target s q)
+    + cond (isWrite q) (writtenCharge U s (obtained s t (q .processor) (target s q)) (q .processor) (target s q)) 0
+
+abbrev pub charges : ℕ → ℕ → ℕ → Setup → Tables → List Request → ℕ
+charges F W U s t [] = 0
+charges F W U s t (q ∷ qs) = charge F W U s t q + charges F W U s (served s t q) qs
+
+-- ---- the potential of the whole
+
+unfoldable pub total : (ℕ → ℕ → ℕ → ℕ → ℕ) → Setup → Tables → Rival → ℕ
+total ψ s t r = sum (slots s) (λ k. ψ (counter t k) (block t k .0) (held r k) (copy r k))
+
+module _ (s : Setup) (ok : Fits s) (F W U : ℕ) (ψ : ℕ → ℕ → ℕ → ℕ → ℕ) (P : Potential (fetchPrice s) F W U ψ) where
+  -- the engine changes slot k alone
+  engine-move : (t t′ : Tables) (r : Rival) (k x y : ℕ) → k < slots s
+      → ((m : ℕ) → m ≢ k → counter t′ m ≡ counter t m) → ((m : ℕ) → m ≢ k → block t′ m .0 ≡ block t m .0)
+      → ψ (counter t′ k) (block t′ k .0) (held r k) (copy r k) + x ≤ ψ (counter t k) (block t k .0) (held r k) (copy r k) + y
+      → total ψ s t′ r + x ≤ total ψ s t r + y
+  unfolding total
+  engine-move t t′ r k x y h ec eb e = sum-one (slots s) _ _ k x y h e (λ m l d. rw (ec m d, eb m d) (le-refl _))
+
+  rival-move : (t : Tables) (r r′ : Rival) (k x y : ℕ) → k < slots s
+      → ((m : ℕ) → m ≢ k → held r′ m ≡ held r m) → ((m : ℕ) → m ≢ k → copy r′ m ≡ copy r m)
+      → ψ (counter t k) (block t k .0) (held r′ k) (copy r′ k) + x ≤ ψ (counter t k) (block t k .0) (held r k) (copy r k) + y
+      → total ψ s t r′ + x ≤ total ψ s t r + y
+  unfolding total
+  rival-move t r r′ k x y h ec eb e = sum-one (slots s) _ _ k x y h e (λ m l d. rw (ec m d, eb m d) (le-refl _))
+
+  module _ (t : Tables) (sd : Sound s t) (r : Rival) (i : ℕ) (b : Block) (hi : i < s .processors) (kp : keeps s r i b ≡ true) where
+    k : ℕ
+    k = slot s i b
+
+    kept : (held r (slot s i b) ≡ 1) × (copy r (slot s i b) ≡ b .0)
+    unfolding keeps
+    kept = keepsAt-true r (slot s i b) b kp
+
+    -- a slot that does not hold b has another number, if any
+    other-number : (k : ℕ) → holdsAt t k b ≡ false → 0 < counter t k → block t k .0 ≢ b .0
+    other-number k e l y = holdsAt-false t k b e l (block-path y)
+
+    miss : holds s t i b ≡ false
+        → total ψ s (fetched s (evicted s t (slot s i b)) (slot s i b) b) r + (F + cond (marked t (slot s i b)) W 0) ≤ total ψ s t r + 0
+    unfolding holds marked
+    miss e =
+        engine-move t (fetched s (evicted s t k) k b) r k (F + cond (marked t k) W 0) 0 hk
+        (refetched-counter s t (sd .lengths) k b hk) (refetched-block s t (sd .lengths) k b hk)
+        (rw (refetched-counter-same s t (sd .lengths) k b hk, refetched-block-same s t (sd .lengths) k b hk, kept .0, kept .1)
+        (choice (λ z. ψ (fetchPrice s) (b .0) 1 (b .0) + (F + z) ≤ ψ (counter t k) (block t k .0) 1 (b .0) + 0) (marked t k)
+        (λ c. omega (arith, P .fetch-marked (counter t k) (block t k .0) (b .0) (other-number k e) (sd .line k hk .full (eqb-true _ _ c))))
+        (λ c. omega (arith, P .fetch (counter t k) (block t k .0) (b .0) (other-number k e)))))
+      where
+        k : ℕ
+        k = slot s i b
+
+        hk : k < slots s
+        hk = slot-lt s ok i b hi
+
+    pub obtained-bound : total ψ s (obtained s t i b) r + obtainedCharge F W s t i b ≤ total ψ s t r
+    unfolding obtained obtainedCharge
+    obtained-bound = go (holds s t i b) refl
+      where
+        k : ℕ
+        k = slot s i b
+
+        go : (c : Bool) → holds s t i b ≡ c
+            → total ψ s (cond c t (fetched s (evicted s t k) k b)) r + cond c 0 (F + cond (marked t k) W 0) ≤ total ψ s t r
+        go true e = omega arith
+        go false e = omega (arith, miss e)
+
+    -- the writer's counter is full
+    refilled : (t′ : Tables) → holds s t i b ≡ true → t′ .blocks ≡ t .blocks → t′ .counters ≡ set (t .counters) (slot s i b) (fetchPrice s)
+        → total ψ s t′ r + 0 ≤ total ψ s t r + 0
+    refilled t′ e eb ec =
+        engine-move t t′ r k 0 0 hk
+        (λ m d. ap (λ l. at l m) ec ∙ at-set-other (t .counters) k (fetchPrice s) m d) (λ m d. ap (λ l. at l m) eb)
+        (rw (
+          ap (λ l. at l k) ec ∙ counter-stored s t (sd .lengths) k (fetchPrice s) hk,
+          ap (λ l. at l k) eb,
+          block-number (holder-slot s t i b e .1),
+          kept .0,
+          kept .1,
+        )
+        (omega (arith, P .refill (counter t k) (b .0))))
+      where
+        k : ℕ
+        k = slot s i b
+
+        hk : slot s i b < slots s
+        hk = slot-lt s ok i b hi
+
+  -- the payer's counter falls
+  paid : (t : Tables) (z : Sized s t) (r : Rival) (i j : ℕ) (b : Block) (u : ℕ) → j < s .processors → j ≢ i → 0 < counter t (slot s j b)
+      → block t (slot s j b) ≡ b → (shared s r i b ≡ true → 1 ≤ u) → total ψ s (charged s t (slot s j b)) r + U ≤ total ψ s t r + u
+  paid t z r i j b u hj d pos eb hu =
+      engine-move t (charged s t k) r k U u hk (charged-counter s t z k hk) (charged-block s t z k hk)
+      (rw (charged-counter-same s t z k hk, block-number eb) (go (known (keepsAt r k b))))
+    where
+      k : ℕ
+      k = slot s j b
+
+      hk : k < slots s
+      hk = slot-lt s ok j b hj
+
+      go : Known (keepsAt r k b) → ψ (counter t k - 1) (block (charged s t k) k .0) (held r k) (copy r k) + U ≤ ψ (counter t k) (b .0) (held r k) (copy r k) + u
+      go (sure e) =
+          rw (keepsAt-true r k b e .0, keepsAt-true r k b e .1)
+          (omega (
+            arith,
+            P .pay-kept (counter t k) (block (charged s t k) k .0) (b .0) pos (λ l. charged-block-same s t z k hk l ∙ block-number eb),
+            hu (shared-some s r i j b hj d e),
+          ))
+      go (not-so e) =
+          omega (
+            arith,
+            P .pay (counter t k) (b .0) (block (charged s t k) k .0) (held r k) (copy r k) pos (λ h c. true≢false (sym (true-keepsAt r k b h (sym c)) ∙ e)),
+          )
+
+  module _ (t : Tables) (sd : Sound s t) (r : Rival) (i : ℕ) (b : Block) (hi : i < s .processors) (kp : keeps s r i b ≡ true)
+      (o x u : ℕ) (e : holds s t i b ≡ true) where
+    alone-case : total ψ s (writtenAlone s t (slot s i b) o x) r + 0 ≤ total ψ s t r + u
+    unfolding writtenAlone
+    alone-case = omega (arith, refilled t sd r i b hi kp (writtenAlone s t (slot s i b) o x) e refl refl)
+
+    shared-case : payer s t i b < s .processors → (shared s r i b ≡ true → 1 ≤ u)
+        → total ψ s (charged s (broadcast s t (slot s i b) b o x) (slot s (payer s t i b) b)) r + U ≤ total ψ s t r + u
+    unfolding broadcast
+    shared-case l hu =
+        let t′ : Tables = broadcast s t (slot s i b) b o x in
+        let j : ℕ = payer s t i b in
+        let a = payer-found s t i b l in
+        let hj = holder-slot s t j b (a .passes) in
+        let d : slot s j b ≢ slot s i b = λ y. a .differs (slot-inj s ok j i b b y) in
+        let ec : counter t′ (slot s j b) ≡ counter t (slot s j b) = at-set-other (t .counters) (slot s i b) (fetchPrice s) (slot s j b) d in
+        let one = refilled t sd r i b hi kp t′ e refl refl in
+        let two = paid t′ (sized-broadcast s t (sd .lengths) (slot s i b) b o x) r i j b u l (a .differs) (rw ec (hj .0)) (hj .1) hu in
+        omega (arith, one, two)
+
+  module _ (t : Tables) (sd : Sound s t) (r : Rival) (i : ℕ) (b : Block) (hi : i < s .processors) (kp : keeps s r i b ≡ true) where
+    pub written-bound : (o x u : ℕ) → o < s .words → holds s t i b ≡ true → (shared s r i b ≡ true → 1 ≤ u)
+        → total ψ s (written s t i b o x) r + writtenCharge U s t i b ≤ total ψ s t r + u
+    unfolding written writtenCharge
+    written-bound o x u ho e hu = go (ltb (payer s t i b) (s .processors)) refl
+      where
+        k : ℕ
+        k = slot s i b
+
+        go : (c : Bool) → ltb (payer s t i b) (s .processors) ≡ c
+            → total ψ s (cond c (charged s (broadcast s t k b o x) (slot s (payer s t i b) b)) (writtenAlone s t k o x)) r + cond c U 0
+            ≤ total ψ s t r + u
+        go true c = shared-case t sd r i b hi kp o x u e (ltb-true _ _ c) hu
+        go false c = alone-case t sd r i b hi kp o x u e
+
+  -- one request, completed by the rival too
+  served-bound : (t : Tables) (sd : Sound s t) (r : Rival) (q : Request) → Valid s q → keeps s r (q .processor) (target s q) ≡ true → (u : ℕ)
+      → (isWrite q ≡ true → shared s r (q .processor) (target s q) ≡ true → 1 ≤ u)
+      → total ψ s (served s t q) r + charge F W U s t q ≤ total ψ s t r + u
+  unfolding served charge
+  served-bound t sd r q v kp u hu = go (isWrite q) refl
+    where
+      i : ℕ
+      i = q .processor
+
+      b : Block
+      b = target s q
+
+      t′ : Tables
+      t′ = obtained s t i b
+
+      first-part : total ψ s t′ r + obtainedCharge F W s t i b ≤ total ψ s t r
+      first-part = obtained-bound t sd r i b (v .processor) kp
+
+      go : (c : Bool) → isWrite q ≡ c
+          → total ψ s (cond c (written s t′ i b (offsetOf s (variableOf q)) (newValue q)) t′) r
+          + (obtainedCharge F W s t i b + cond c (writtenCharge U s t′ i b) 0) ≤ total ψ s t r + u
+      go true e =
+          omega (
+            arith,
+            first-part,
+            written-bound t′ (sound-obtained s ok t sd i b (v .processor) (target-lt s ok q v)) r i b (v .processor) kp
+                (offsetOf s (variableOf q)) (newValue q) u (offset-lt s ok (variableOf q)) (obtained-holds s ok t sd i b (v .processor)) (hu e),
+          )
+      go false e = omega (arith, first-part)
+
+-- ---- what a legal entry says
+
+pub record Move (s : Setup) (i : ℕ) (b : Block) (n : ℕ) : Type 0 where
+  pub processor : i < s .processors
+  pub block : b .0 < s .blocks
+  pub rest : n ≡ 0
+
+pub move-legal : (s : Setup) (i : ℕ) (b : Block) (n : ℕ) → moveRefusal s i b n ≡ 0 → Move s i b n
+unfolding moveRefusal
+move-legal s i b n e =
+    let e1 = chosen-zero (ltb i (s .processors)) (cond (ltb (b .0) (s .blocks)) n noSuchBlock) noSuchProcessor (omega arith) e in
+    let e2 = chosen-zero (ltb (b .0) (s .blocks)) n noSuchBlock (omega arith) (e1 .1) in
+    record { processor = ltb-true _ _ (e1 .0); block = ltb-true _ _ (e2 .0); rest = e2 .1 }
+
+pub record Completion (s : Setup) (r : Rival) (q : Request) : Type 0 where
+  pub valid : Valid s q
+  pub keeps : keeps s r (q .processor) (target s q) ≡ true
+
+pub completion-legal : (s : Setup) (r : Rival) (q : Request) (a : Bool) → completionRefusal s r q a ≡ 0 → Completion s r q
+unfolding completionRefusal
+completion-legal s r q a e =
+    let kept : ℕ = cond (keeps s r (q .processor) (target s q)) noRefusal completionNotHeld in
+    let done : ℕ = cond (a && not (isWrite q)) readByBroadcast kept in
+    let known : ℕ = cond (ltb (variableOf q .0) (variables s)) done noSuchVariable in
+    let e1 = chosen-zero (ltb (q .processor) (s .processors)) known noSuchProcessor (omega arith) e in
+    let e2 = chosen-zero (ltb (variableOf q .0) (variables s)) done noSuchVariable (omega arith) (e1 .1) in
+    let e3 = chosen-other (a && not (isWrite q)) readByBroadcast kept (omega arith) (e2 .1) in
+    let e4 = chosen-zero (keeps s r (q .processor) (target s q)) noRefusal completionNotHeld (omega arith) (e3 .1) in
+    record { valid = record { processor = ltb-true _ _ (e1 .0); variable = ltb-true _ _ (e2 .0) }; keeps = e4 .0 }
+
+completion-pays : (s : Setup) (r : Rival) (q : Request) (a : Bool) → isWrite q ≡ true → shared s r (q .processor) (target s q) ≡ true
+    → 1 ≤ completionCycles s r q a
+unfolding completionCycles
+completion-pays s r q true e h = rw e (omega arith)
+completion-pays s r q false e h = rw (e, h) (omega arith)
+
+sized-rivalFetched : (s : Setup) (r : Rival) (i : ℕ) (b : Block) → RivalSized s r → RivalSized s (rivalFetched s r i b)
+unfolding rivalFetched
+sized-rivalFetched s r i b sh = record {
+  blocks = length-set (r .blocks) (slot s i b) (b .0) ∙ sh .blocks;
+  held = length-set (r .held) (slot s i b) 1 ∙ sh .held;
+}
+
+sized-rivalDropped : (s : Setup) (r : Rival) (i : ℕ) (b : Block) → RivalSized s r → RivalSized s (rivalDropped s r i b)
+unfolding rivalDropped
+sized-rivalDropped s r i b sh = record { blocks = length-set (r .blocks) (slot s i b) 0 ∙ sh .blocks; held = length-set (r .held) (slot s i b) 0 ∙ sh .held }
+
+sized-rivalWrittenBack : (s : Setup) (r : Rival) (i : ℕ) (b : Block) → RivalSized s r → RivalSized s (rivalWrittenBack s r i b)
+unfolding rivalWrittenBack
+sized-rivalWrittenBack s r i b sh = record { blocks = sh .blocks; held = sh .held }
+
+sized-rivalCompleted : (s : Setup) (r : Rival) (q : Request) → RivalSized s r → RivalSized s (rivalCompleted s r q)
+unfolding rivalCompleted
+sized-rivalCompleted s r q sh = record { blocks = sh .blocks; held = sh .held }
+
+-- ---- a whole schedule
+
+module _ (s : Setup) (ok : Fits s) (F W U : ℕ) (ψ : ℕ → ℕ → ℕ → ℕ → ℕ) (P : Potential (fetchPrice s) F W U ψ) where
+  fetch-bound : (t : Tables) (sd : Sound s t) (r : Rival) (sh : RivalSized s r) (i : ℕ) (b : Block) → i < s .processors → held r (slot s i b) ≡ 0
+      → total ψ s t (rivalFetched s r i b) + 0 ≤ total ψ s t r + fetchPrice s
+  unfolding rivalFetched
+  fetch-bound t sd r sh i b hi e =
+      rival-move s ok F W U ψ P t r (rivalFetched s r i b) k 0 (fetchPrice s) hk
+      (λ m d. at-set-other (r .held) k 1 m d) (λ m d. at-set-other (r .blocks) k (b .0) m d)
+      (rw (at-set-same (r .held) k 1 (omega (arith, sh .held, hk)), at-set-same (r .blocks) k (b .0) (omega (arith, sh .blocks, hk)))
+      (omega (arith, P .take (counter t k) (block t k .0) (held r k) (copy r k) (b .0) (sd .line k hk .bounded) e)))
+    where
+      k : ℕ
+      k = slot s i b
+
+      hk : slot s i b < slots s
+      hk = slot-lt s ok i b hi
+
+  drop-bound : (t : Tables) (sd : Sound s t) (r : Rival) (sh : RivalSized s r) (i : ℕ) (b : Block) → i < s .processors → keeps s r i b ≡ true
+      → total ψ s t (rivalDropped s r i b) + 0 ≤ total ψ s t r + 0
+  unfolding rivalDropped keeps
+  drop-bound t sd r sh i b hi e =
+      rival-move s ok F W U ψ P t r (rivalDropped s r i b) k 0 0 hk
+      (λ m d. at-set-other (r .held) k 0 m d) (λ m d. at-set-other (r .blocks) k 0 m d)
+      (rw (at-set-same (r .held) k 0 (omega (arith, sh .held, hk)), at-set-same (r .blocks) k 0 (omega (arith, sh .blocks, hk)), keepsAt-true r k b e .0)
+      (omega (arith, P .drop (counter t k) (block t k .0) (copy r k) 0 (sd .line k hk .bounded))))
+    where
+      k : ℕ
+      k = slot s i b
+
+      hk : slot s i b < slots s
+      hk = slot-lt s ok i b hi
+
+  rivalCompleted-total : (t : Tables) (r : Rival) (q : Request) → total ψ s t (rivalCompleted s r q) ≡ total ψ s t r
+  unfolding rivalCompleted total
+  rivalCompleted-total t r q = refl
+
+  rivalWrittenBack-total : (t : Tables) (r : Rival) (i : ℕ) (b : Block) → total ψ s t (rivalWrittenBack s r i b) ≡ total ψ s t r
+  unfolding rivalWrittenBack total
+  rivalWrittenBack-total t r i b = refl
+
+  pub bound : (es : List Entry) (t : Tables) (r : Rival) (qs : List Request) → Sound s t → RivalSized s r → Legal s r qs es
+      → charges F W U s t qs ≤ paidFor (costs s r qs es) + total ψ s t r
+  bound [] t r [] sd sh l = omega arith
+  bound [] t r (q ∷ qs) sd sh l = absurd (omega (arith, l))
+  bound (Fetch i b ∷ es) t r qs sd sh l =
+      let m = move-legal s i b _ (l .0) in
+      let e = eqb-true _ _ (chosen-zero (eqb (held r (slot s i b)) 0) noRefusal lineInUse (omega arith) (m .rest) .0) in
+      omega (arith, fetch-bound t sd r sh i b (m .processor) e, bound es t (rivalFetched s r i b) qs sd (sized-rivalFetched s r i b sh) (l .1))
+  bound (WriteBack i b ∷ es) t r qs sd sh l =
+      omega (arith, rivalWrittenBack-total t r i b, bound es t (rivalWrittenBack s r i b) qs sd (sized-rivalWrittenBack s r i b sh) (l .1))
+  bound (Drop i b ∷ es) t r qs sd sh l =
+      let m = move-legal s i b _ (l .0) in
+      let e = chosen-zero (keeps s r i b) (cond (eqb (at (r .marks) (slot s i b)) 0) noRefusal dropOfMarked) blockNotHeld (omega arith) (m .rest) .0 in
+      omega (arith, drop-bound t sd r sh i b (m .processor) e, bound es t (rivalDropped s r i b) qs sd (sized-rivalDropped s r i b sh) (l .1))
+  bound (Complete ∷ es) t r [] sd sh l = absurd (omega (arith, l .0))
+  bound (Complete ∷ es) t r (q ∷ qs) sd sh l =
+      let c = completion-legal s r q false (l .0) in
+      omega (
+        arith,
+        served-bound s ok F W U ψ P t sd r q (c .valid) (c .keeps) (completionCycles s r q false) (completion-pays s r q false),
+        rivalCompleted-total (served s t q) r q,
+        bound es (served s t q) (rivalCompleted s r q) qs (sound-served s ok t sd q (c .valid)) (sized-rivalCompleted s r q sh) (l .1),
+      )
+  bound (CompleteByBroadcast ∷ es) t r [] sd sh l = absurd (omega (arith, l .0))
+  bound (CompleteByBroadcast ∷ es) t r (q ∷ qs) sd sh l =
+      let c = completion-legal s r q true (l .0) in
+      omega (
+        arith,
+        served-bound s ok F W U ψ P t sd r q (c .valid) (c .keeps) (completionCycles s r q true) (completion-pays s r q true),
+        bound es (served s t q) r qs (sound-served s ok t sd q (c .valid)) sh (l .1),
+      )

@@ -1,0 +1,14 @@
+pub mod Sums
+pub mod Potential
+pub mod Sound
+pub mod StepSound
+pub mod Fresh
+pub mod Bound
+pub mod Half
+pub mod Values
+pub mod Possible
+pub mod Claim
+pub mod Tight
+pub mod Priced
+pub mod LastValues
+pub mod Demands

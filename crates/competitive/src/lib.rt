@@ -1,0 +1,1 @@
+// Theorems about the specification of crate protocol, in proofs/. There is no code.
