@@ -8,10 +8,12 @@ use Rattle.competitive.proofs.Claim.{claim}
 use Rattle.competitive.proofs.Tight.{tight-list}
 use Rattle.competitive.proofs.LastValues.{last-values}
 use Rattle.competitive.proofs.Priced.{priced-right}
+use Rattle.competitive.proofs.EngineSchedule.{runs-rival}
 
 pub demands : (s : Setup) → inRange s ≡ true → Demands s
 demands s ranged = record {
   last-values = last-values s ranged;
   priced-right = priced-right s;
   demand3 = record { bounded = claim s ranged; tight = tight-list s ranged };
+  engine-is-rival = λ a p rs. runs-rival s ranged (a .requests) rs;
 }

@@ -40,7 +40,7 @@ value-expected : (s : Setup) (ok : Fits s) (ps : List Request) (q : Request) →
 value-expected s ok ps q va v =
     choice (λ z. value s (servedAll s (fresh s) ps) q ≡ z) (isWrite q) (λ e. write-value s (servedAll s (fresh s) ps) q e) (λ e. last-value s ok ps q va v e)
 
-valid-append : (s : Setup) (xs ys : List Request) → AllValid s xs → AllValid s ys → AllValid s (xs ++ ys)
+pub valid-append : (s : Setup) (xs ys : List Request) → AllValid s xs → AllValid s ys → AllValid s (xs ++ ys)
 valid-append s [] ys a b = b
 valid-append s (q ∷ xs) ys a b = (a .0, valid-append s xs ys (a .1) b)
 

@@ -11,4 +11,5 @@ pub mod Claim
 pub mod Tight
 pub mod Priced
 pub mod LastValues
+pub mod EngineSchedule
 pub mod Demands

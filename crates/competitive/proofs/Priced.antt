@@ -24,7 +24,7 @@ abbrev isAccepted : Verdict → Bool
 isAccepted (accepted r c) = true
 isAccepted (refused n k) = false
 
-bill-path : {a c : Bill} → a .fetch ≡ c .fetch → a .«write_back» ≡ c .«write_back» → a .update ≡ c .update → a ≡ c
+pub bill-path : {a c : Bill} → a .fetch ≡ c .fetch → a .«write_back» ≡ c .«write_back» → a .update ≡ c .update → a ≡ c
 bill-path f g h = λ i. record { fetch = f i; «write_back» = g i; update = h i }
 
 legal-accepted : (s : Setup) (r : Rival) (qs : List Request) (es : List Entry) (n : ℕ) (c : Bill) → Legal s r qs es

@@ -305,7 +305,7 @@ pub record Plays (s : Setup) (r : Rival) (qs : List Request) (es : List Entry) (
   pub legal : Legal s r qs es
   pub costs : cycles (costs s r qs es) ≡ c
 
-rival-path : {r q : Rival} → r .blocks ≡ q .blocks → r .held ≡ q .held → r .marks ≡ q .marks → r ≡ q
+pub rival-path : {r q : Rival} → r .blocks ≡ q .blocks → r .held ≡ q .held → r .marks ≡ q .marks → r ≡ q
 rival-path a b c = λ i. record { blocks = a i; held = b i; marks = c i }
 
 module _ (s : Setup) (ok : Fits s) where

@@ -195,7 +195,7 @@ module _ (s : Setup) (ok : Fits s) (t : Tables) (sd : Sound s t) (b : Block) (o 
       go2 n (two p) c =
           broadcast-memory-other s ok t sd k b₀ o₀ v b o ho₀ ho (λ y. absurd (p y)) ∙ has .memory n ∙ sym (over-other b₀ o₀ v b o x (λ y. absurd (p y)))
 
-evicted-zero : (s : Setup) (t : Tables) (k : ℕ) → counter (evicted s t k) k ≡ 0
+pub evicted-zero : (s : Setup) (t : Tables) (k : ℕ) → counter (evicted s t k) k ≡ 0
 unfolding evicted emptied
 evicted-zero s t k = at-set-zero (saved s t k .counters) k
 

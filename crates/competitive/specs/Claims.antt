@@ -15,6 +15,7 @@ use Rattle.protocol.specs.Accounts.{cycles, freshAccount, cyclesOf, possible}
 use Rattle.protocol.specs.Runs.{Outcome, run, Run, State, outcomes, runs, takenRun, takenAll, spent}
 use Rattle.protocol.specs.Rival.{Rival, noCopies, Legal, costs, lastCopies}
 use Rattle.protocol.specs.Pricer.{priceRefusal, price, priceTables}
+use Rattle.competitive.specs.EngineSchedule.{EngineIsRival}
 use Rattle.protocol.specs.declared.Setup.{Setup}
 use Rattle.protocol.specs.declared.Variable.{Variable}
 use Rattle.protocol.specs.declared.Request.{Request}
@@ -110,3 +111,5 @@ pub record Demands (s : Setup) : Type 0 where
   pub last-values : LastValues s
   pub priced-right : (lent : Rival) (qs : List Request) (es : List Entry) → priceRefusal s lent qs es ≡ noRefusal → PricedRight s lent qs es
   pub demand3 : Demand3 s
+  -- the engine's own actions are a legal schedule for the requests that a list of runs takes
+  pub engine-is-rival : (a : Account) → possible s a ≡ true → (rs : List Run) → EngineIsRival s (takenAll s (a .requests) rs)

@@ -1,1 +1,2 @@
+pub mod EngineSchedule
 pub mod Claims

@@ -1,0 +1,452 @@
+-- The engine is one of the rivals: its own actions are a legal schedule, at its own bill, and leave its own copies.
+use Prim.Native.Nat.{ℕ, zero, suc, _+_, _-_, _/_, _*_, _<_}
+use mathlib.Core.Path.{_≡_, refl, sym, ap, _∙_, subst}
+use mathlib.Core.Logic.{_≢_}
+use mathlib.Core.Bool.{Bool, true, false, _&&_, cond, true≢false}
+use mathlib.Core.List.{List, [], _∷_, _++_, append-assoc, map}
+use native.Mathlib.Omega.{arith}
+use lib.ListN.{length, set, length-set, List·getD-map}
+use lib.Seq.{set-getD, map-set-same, ext-getD}
+use lib.Dec.{ltb, eqb}
+use borrow.Author.Tests.{ltb-true, lt-ltb, eqb-true, eqb-false}
+use Rattle.protocol.specs.Lists.{at, zeros, other}
+use Rattle.protocol.specs.Board.{Fits, inRange, variables, slots, slot, offsetOf, fetchPrice, writeBackPrice}
+use Rattle.protocol.specs.Tables.{Tables, tables, fresh, counter, block, mark, holdsAt, holds, marked}
+use Rattle.protocol.specs.Soundness.{Sound}
+use Rattle.protocol.specs.Rules.{writtenBack, emptied, filled, saved, saveCycles, evicted, owner, released, fetched, obtained, fetchCycles, writeBackCycles, payer, writtenAlone, broadcast, charged, written, updateCycles}
+use Rattle.protocol.specs.Requests.{isWrite, variableOf, newValue, target, readied, served, bill}
+use Rattle.protocol.specs.Accounts.{nothing, plus}
+use Rattle.protocol.specs.Runs.{Run, takenRun, takenAll, servedAll, spent}
+use Rattle.protocol.specs.Rival.{Rival, rival, noCopies, keepsAt, keeps, shared, unmarked, rivalFetched, rivalWrittenBack, rivalDropped, rivalCompleted, completionCycles, played, left, cost, refusal, moveRefusal, completionRefusal, Legal, costs, lastCopies}
+use Rattle.competitive.specs.EngineSchedule.{saving, evicting, obtaining, paying, serving, engineSchedule, EngineIsRival}
+use Rattle.protocol.specs.declared.Setup.{Setup}
+use Rattle.protocol.specs.declared.Block.{Block}
+use Rattle.protocol.specs.declared.Request.{Request}
+use Rattle.protocol.specs.declared.Bill.{Bill}
+use Rattle.protocol.specs.declared.Entry.{Entry}
+use Rattle.protocol.specs.declared.Entry.the-variants.{Fetch, WriteBack, Drop, Complete}
+use Rattle.protocol.proofs.Laws.{Same, same, apart, same?, Under, under, over, under?, Known, sure, not-so, known, choice, at-set-other, at-set-zero}
+use Rattle.protocol.proofs.Board.{block-path, block-number, inRange-fits, slot-lt, slot-inj, slot-proper, processor-lt, offset-lt}
+use Rattle.protocol.proofs.Holding.{holdsAt-true, true-holdsAt, holder-slot, payer-found, owner-found}
+use Rattle.competitive.proofs.Sound.{sound-writtenBack}
+use Rattle.competitive.proofs.StepSound.{marked-holds, placed, sound-evicted, sound-released, released-unmarked, sound-obtained, obtained-holds, shared-facts, Valid, AllValid, target-lt, sound-served}
+use Rattle.competitive.proofs.Fresh.{sound-fresh}
+use Rattle.competitive.proofs.Bound.{released-counters, released-blocks}
+use Rattle.competitive.proofs.Values.{evicted-zero}
+use Rattle.competitive.proofs.Claim.{run-valid}
+use Rattle.competitive.proofs.Tight.{rival-path}
+use Rattle.competitive.proofs.Priced.{bill-path}
+use Rattle.competitive.proofs.LastValues.{valid-append}
+
+-- ---- the engine's copies as a rival's
+
+-- held or not, by a counter
+abbrev on : ℕ → ℕ
+on c = cond (ltb 0 c) 1 0
+
+on-pos : (c : ℕ) → 0 < c → on c ≡ 1
+on-pos c h = rw (lt-ltb 0 c h)
+
+abbrev pub mirrored : Tables → Rival
+mirrored t = rival (t .blocks) (map on (t .counters)) (t .marks)
+
+at-held : (l : List ℕ) (k : ℕ) → at (map on l) k ≡ on (at l k)
+at-held l k = List·getD-map on l k 0
+
+held-set : (l : List ℕ) (k x : ℕ) → map on (set l k x) ≡ set (map on l) k (on x)
+held-set [] k x = refl
+held-set (y ∷ l) zero x = refl
+held-set (y ∷ l) (suc k) x = ap (λ z. on y ∷ z) (held-set l k x)
+
+held-zeros : (n : ℕ) → map on (zeros n) ≡ zeros n
+held-zeros zero = refl
+held-zeros (suc n) = ap (λ z. 0 ∷ z) (held-zeros n)
+
+-- a counter that stays above 0
+held-same : (l : List ℕ) (k x : ℕ) → 0 < x → 0 < at l k → map on (set l k x) ≡ map on l
+held-same l k x h g = map-set-same on l k x 0 (on-pos x h ∙ sym (on-pos (at l k) g))
+
+-- a 0 that is stored over a 0
+set-none : (l : List ℕ) (k : ℕ) → at l k ≡ 0 → set l k 0 ≡ l
+set-none l k e = ap (set l k) (sym e) ∙ set-getD l k 0
+
+keepsAt-holdsAt : (t : Tables) (k : ℕ) (b : Block) → keepsAt (mirrored t) k b ≡ holdsAt t k b
+unfolding keepsAt holdsAt
+keepsAt-holdsAt t k b = rw (at-held (t .counters) k) (go (ltb 0 (counter t k)))
+  where
+    go : (c : Bool) → eqb (cond c 1 0) 1 && eqb (block t k .0) (b .0) ≡ c && eqb (block t k .0) (b .0)
+    go true = refl
+    go false = refl
+
+keeps-holds : (s : Setup) (t : Tables) (i : ℕ) (b : Block) → keeps s (mirrored t) i b ≡ holds s t i b
+unfolding keeps holds
+keeps-holds s t i b = keepsAt-holdsAt t (slot s i b) b
+
+-- ---- parts of a schedule
+
+-- from r with qs left, es lead to r′ with qs′ left, at cost c
+record Leads (s : Setup) (r : Rival) (qs : List Request) (es : List Entry) (r′ : Rival) (qs′ : List Request) (c : Bill) : Type 0 where
+  legal : (ds : List Entry) → Legal s r′ qs′ ds → Legal s r qs (es ++ ds)
+  pays : (ds : List Entry) → costs s r qs (es ++ ds) ≡ plus c (costs s r′ qs′ ds)
+  last : (ds : List Entry) → lastCopies s r qs (es ++ ds) ≡ lastCopies s r′ qs′ ds
+
+leads-none : (s : Setup) (r : Rival) (qs : List Request) → Leads s r qs [] r qs nothing
+leads-none s r qs = record { legal = λ ds h. h; pays = λ ds. bill-path (omega arith) (omega arith) (omega arith); last = λ ds. refl }
+
+leads-one : (s : Setup) (r : Rival) (qs : List Request) (e : Entry) (r′ : Rival) (c : Bill) → refusal s r qs e ≡ 0 → played s r qs e ≡ r′ → cost s r qs e ≡ c
+    → Leads s r qs (e ∷ []) r′ (left qs e) c
+leads-one s r qs e r′ c h p y = rw (← p, ← y) (record { legal = λ ds l. (h, l); pays = λ ds. refl; last = λ ds. refl })
+
+leads-on : (s : Setup) {r r′ r″ : Rival} {qs qs′ qs″ : List Request} {es fs : List Entry} {c d : Bill} (g : Bill) → plus c d ≡ g
+    → Leads s r qs es r′ qs′ c → Leads s r′ qs′ fs r″ qs″ d → Leads s r qs (es ++ fs) r″ qs″ g
+leads-on s {r} {r′} {r″} {qs} {qs′} {qs″} {es} {fs} {c} {d} g e a b = rw (← e) (record {
+  legal = λ ds h. rw append-assoc (a .legal (fs ++ ds) (b .legal ds h));
+  pays = λ ds. rw append-assoc (a .pays (fs ++ ds) ∙ ap (plus c) (b .pays ds) ∙ bill-path (omega arith) (omega arith) (omega arith));
+  last = λ ds. rw append-assoc (a .last (fs ++ ds) ∙ b .last ds);
+})
+
+-- a bill of three kinds
+abbrev cost3 : ℕ → ℕ → ℕ → Bill
+cost3 f w u = record { fetch = f; «write_back» = w; update = u }
+
+move-fine : (s : Setup) (i : ℕ) (b : Block) (n : ℕ) → i < s .processors → b .0 < s .blocks → n ≡ 0 → moveRefusal s i b n ≡ 0
+unfolding moveRefusal
+move-fine s i b n hi hb e = rw (lt-ltb i (s .processors) hi, lt-ltb (b .0) (s .blocks) hb) e
+
+-- ---- rule 1: processor i holds block b in slot k
+
+module _ (s : Setup) (ok : Fits s) (t : Tables) (sd : Sound s t) (qs : List Request) (i : ℕ) (b : Block) (k : ℕ) (hi : i < s .processors) (p : slot s i b ≡ k)
+    (hd : holdsAt t k b ≡ true) where
+  kept : keeps s (mirrored t) i b ≡ true
+  unfolding keeps
+  kept = rw p (keepsAt-holdsAt t k b ∙ hd)
+
+  held-lt : b .0 < s .blocks
+  held-lt =
+      let h = holdsAt-true t k b hd in
+      rw (block-number (h .1)) at (sd .line k (rw p at (slot-lt s ok i b hi)) .below (h .0))
+
+  back-leads : Leads s (mirrored t) qs (WriteBack i b ∷ []) (mirrored (writtenBack s t k)) qs (cost3 0 (writeBackPrice s) 0)
+  unfolding rivalWrittenBack writtenBack
+  back-leads =
+      leads-one s (mirrored t) qs (WriteBack i b) (mirrored (writtenBack s t k)) (cost3 0 (writeBackPrice s) 0)
+      (move-fine s i b _ hi held-lt (rw kept)) (rw p) refl
+
+  drop-leads : mark t k ≡ 0 → Leads s (mirrored t) qs (Drop i b ∷ []) (mirrored (emptied s t k)) qs nothing
+  unfolding rivalDropped emptied
+  drop-leads e =
+      leads-one s (mirrored t) qs (Drop i b) (mirrored (emptied s t k)) nothing
+      (move-fine s i b _ hi held-lt (rw (kept, p, e))) (rw p (rival-path refl (sym (held-set (t .counters) k 0)) refl)) refl
+
+-- first the one, then the other
+back-drop-leads : (s : Setup) (ok : Fits s) (t : Tables) (sd : Sound s t) (qs : List Request) (i : ℕ) (b : Block) (k : ℕ) → i < s .processors → slot s i b ≡ k
+    → holdsAt t k b ≡ true → mark t k ≡ 1
+    → Leads s (mirrored t) qs (WriteBack i b ∷ Drop i b ∷ []) (mirrored (emptied s (writtenBack s t k) k)) qs (cost3 0 (writeBackPrice s) 0)
+unfolding writtenBack holdsAt
+back-drop-leads s ok t sd qs i b k hi p hd m =
+    leads-on s (cost3 0 (writeBackPrice s) 0) (bill-path (omega arith) (omega arith) (omega arith)) (back-leads s ok t sd qs i b k hi p hd)
+    (drop-leads s ok (writtenBack s t k) (sound-writtenBack s ok t sd k (rw p at (slot-lt s ok i b hi)) m) qs i b k hi p hd (at-set-zero (t .marks) k))
+
+-- emptying an empty slot changes nothing
+empty-same : (s : Setup) (t : Tables) (k : ℕ) → block t k .0 ≡ 0 → counter t k ≡ 0 → mark t k ≡ 0 → mirrored t ≡ mirrored (emptied s t k)
+unfolding emptied
+empty-same s t k eb ec em =
+    rival-path (sym (set-none (t .blocks) k eb)) (ap (map on) (sym (set-none (t .counters) k ec))) (sym (set-none (t .marks) k em))
+
+module _ (s : Setup) (ok : Fits s) (t : Tables) (sd : Sound s t) (qs : List Request) (i : ℕ) (b : Block) (hi : i < s .processors) where
+  -- the block in the way stands in its slot
+  in-way : 0 < counter t (slot s i b) → slot s i (block t (slot s i b)) ≡ slot s i b
+  unfolding slot
+  in-way h = ap (λ z. i * s .lines + z) (sym (sd .line (slot s i b) (slot-lt s ok i b hi) .proper h) ∙ slot-proper s ok i b)
+
+  evicting-leads : Leads s (mirrored t) qs (evicting t i (slot s i b)) (mirrored (evicted s t (slot s i b))) qs (cost3 0 (saveCycles s t (slot s i b)) 0)
+  unfolding evicting saving evicted saved saveCycles marked
+  evicting-leads = go (under? 0 (counter t k)) (eqb (mark t k) 1) refl
+    where
+      k : ℕ
+      k = slot s i b
+
+      c : Block
+      c = block t k
+
+      hk : k < slots s
+      hk = slot-lt s ok i b hi
+
+      go : Under 0 (counter t k) → (x : Bool) → eqb (mark t k) 1 ≡ x
+          → Leads s (mirrored t) qs (cond (ltb 0 (counter t k)) (cond x (WriteBack i c ∷ []) [] ++ Drop i c ∷ []) [])
+          (mirrored (emptied s (cond x (writtenBack s t k) t) k)) qs (cost3 0 (cond x (writeBackPrice s) 0) 0)
+      go (under h y) true e =
+          rw y (back-drop-leads s ok t sd qs i c k hi (in-way h) (true-holdsAt t k c h refl) (eqb-true (mark t k) 1 e))
+      go (under h y) false e =
+          rw y (drop-leads s ok t sd qs i c k hi (in-way h) (true-holdsAt t k c h refl) (omega (arith, sd .line k hk .mark-le, eqb-false (mark t k) 1 e)))
+      go (over h y) true e = absurd (omega (arith, marked-holds s ok t sd k hk (eqb-true (mark t k) 1 e)))
+      go (over h y) false e =
+          let l = sd .line k hk in
+          rw (y, ← empty-same s t k (l .no-block (omega arith)) (omega arith) (l .no-mark (omega arith))) (leads-none s (mirrored t) qs)
+
+-- ---- rule 2: the marks of block b clear
+
+module _ (s : Setup) (r : Rival) (b : Block) where
+  length-unmarked : (n : ℕ) → length (unmarked s r b n) ≡ length (r .marks)
+  length-unmarked zero = refl
+  length-unmarked (suc n) =
+      choice (λ z. length z ≡ length (r .marks)) (keeps s r n b) (λ e. length-set (unmarked s r b n) (slot s n b) 0 ∙ length-unmarked n) (λ e. length-unmarked n)
+
+  -- in a slot that has b, and in one that has not
+  unmarked-clear : Fits s → (n j : ℕ) → j < n → keeps s r j b ≡ true → at (unmarked s r b n) (slot s j b) ≡ 0
+  unmarked-clear ok zero j l e = absurd (omega arith)
+  unmarked-clear ok (suc n) j l e = go (same? j n) (λ l′. unmarked-clear ok n j l′ e)
+    where
+      go : Same j n → (j < n → at (unmarked s r b n) (slot s j b) ≡ 0)
+          → at (cond (keeps s r n b) (set (unmarked s r b n) (slot s n b) 0) (unmarked s r b n)) (slot s j b) ≡ 0
+      go (same p q) f = rw p (rw (rw p at e) (at-set-zero (unmarked s r b n) (slot s n b)))
+      go (apart d q) f =
+          choice (λ z. at z (slot s j b) ≡ 0) (keeps s r n b)
+          (λ c. at-set-other (unmarked s r b n) (slot s n b) 0 (slot s j b) (λ y. d (slot-inj s ok j n b b y)) ∙ f (omega arith)) (λ c. f (omega arith))
+
+  unmarked-other : (n a : ℕ) → keepsAt r a b ≡ false → at (unmarked s r b n) a ≡ at (r .marks) a
+  unfolding keeps
+  unmarked-other zero a f = refl
+  unmarked-other (suc n) a f =
+      choice (λ z. at z a ≡ at (r .marks) a) (keepsAt r (slot s n b) b)
+      (λ e. at-set-other (unmarked s r b n) (slot s n b) 0 a (λ p. true≢false (sym e ∙ ap (λ z. keepsAt r z b) (sym p) ∙ f)) ∙ unmarked-other n a f)
+      (λ e. unmarked-other n a f)
+
+released-other : (s : Setup) (t : Tables) (b : Block) (a : ℕ) → holdsAt t a b ≡ false → mark (released s t b) a ≡ mark t a
+unfolding released writtenBack holds
+released-other s t b a f =
+    choice (λ z. mark z a ≡ mark t a) (ltb (owner s t b) (s .processors))
+    (λ e. at-set-other (t .marks) (slot s (owner s t b) b) 0 a
+    (λ p. true≢false (sym (owner-found s t b (ltb-true _ _ e) .0) ∙ ap (λ z. holdsAt t z b) (sym p) ∙ f)))
+    (λ e. refl)
+
+module _ (s : Setup) (ok : Fits s) (t : Tables) (sd : Sound s t) (b : Block) where
+  cleared : (a : ℕ) → a < slots s → at (unmarked s (mirrored t) b (s .processors)) a ≡ mark (released s t b) a
+  unfolding keeps
+  cleared a l = go (known (holdsAt t a b))
+    where
+      go : Known (holdsAt t a b) → at (unmarked s (mirrored t) b (s .processors)) a ≡ mark (released s t b) a
+      go (sure f) =
+          let h = holdsAt-true t a b f in
+          let p = placed s ok t sd a l (h .0) b (h .1) in
+          let z : at (unmarked s (mirrored t) b (s .processors)) a ≡ 0
+          = rw (p .0) at (unmarked-clear s (mirrored t) b ok (s .processors) (a / s .lines) (processor-lt s ok a l) (keeps-holds s t (a / s .lines) b ∙ p .1)) in
+          let d : mark (released s t b) a ≢ 1
+          = λ y. released-unmarked s ok t sd b a l y (block-path (ap (λ w. at w a) (released-blocks s t b)) ∙ h .1) in
+          omega (arith, sound-released s ok t sd b .line a l .mark-le)
+      go (not-so f) = unmarked-other s (mirrored t) b (s .processors) a (keepsAt-holdsAt t a b ∙ f) ∙ sym (released-other s t b a f)
+
+  unmarked-released : unmarked s (mirrored t) b (s .processors) ≡ released s t b .marks
+  unmarked-released =
+      let e = length-unmarked s (mirrored t) b (s .processors) in
+      ext-getD 0 (unmarked s (mirrored t) b (s .processors)) (released s t b .marks)
+      (omega (arith, e, sd .lengths .marks, sound-released s ok t sd b .lengths .marks))
+      (λ a l. cleared a (omega (arith, e, sd .lengths .marks)))
+
+  -- the block is fetched into an empty slot
+  fetch-leads : (qs : List Request) (i : ℕ) → i < s .processors → counter t (slot s i b) ≡ 0 → b .0 < s .blocks
+      → Leads s (mirrored t) qs (Fetch i b ∷ []) (mirrored (fetched s t (slot s i b) b)) qs (cost3 (fetchPrice s) 0 0)
+  unfolding fetched filled rivalFetched
+  fetch-leads qs i hi e hb =
+      leads-one s (mirrored t) qs (Fetch i b) (mirrored (fetched s t (slot s i b) b)) (cost3 (fetchPrice s) 0 0)
+      (move-fine s i b _ hi hb (rw (at-held (t .counters) (slot s i b), e)))
+      (rival-path (ap (λ z. set z (slot s i b) (b .0)) (sym (released-blocks s t b)))
+      (sym (ap (λ z. map on (set z (slot s i b) (fetchPrice s))) (released-counters s t b) ∙ held-set (t .counters) (slot s i b) (fetchPrice s)
+      ∙ ap (set (map on (t .counters)) (slot s i b)) (on-pos (fetchPrice s) (ok .some-fetch))))
+      (ap (λ z. set z (slot s i b) 0) unmarked-released))
+      refl
+
+obtaining-leads : (s : Setup) (ok : Fits s) (t : Tables) (sd : Sound s t) (qs : List Request) (i : ℕ) (b : Block) → i < s .processors → b .0 < s .blocks
+    → Leads s (mirrored t) qs (obtaining s t i b) (mirrored (obtained s t i b)) qs (cost3 (fetchCycles s t i b) (writeBackCycles s t i b) 0)
+unfolding obtaining obtained fetchCycles writeBackCycles
+obtaining-leads s ok t sd qs i b hi hb = go (holds s t i b)
+  where
+    k : ℕ
+    k = slot s i b
+
+    go : (c : Bool)
+        → Leads s (mirrored t) qs (cond c [] (evicting t i k ++ Fetch i b ∷ [])) (mirrored (cond c t (fetched s (evicted s t k) k b))) qs
+        (cost3 (cond c 0 (fetchPrice s)) (cond c 0 (saveCycles s t k)) 0)
+    go true = leads-none s (mirrored t) qs
+    go false =
+        leads-on s (cost3 (fetchPrice s) (saveCycles s t k) 0) (bill-path (omega arith) (omega arith) (omega arith)) (evicting-leads s ok t sd qs i b hi)
+        (fetch-leads s ok (evicted s t k) (sound-evicted s ok t sd k (slot-lt s ok i b hi)) b qs i hi (evicted-zero s t k) hb)
+
+-- ---- rules 3 to 5: the request is completed
+
+shared-payer : (s : Setup) (t : Tables) (i : ℕ) (b : Block) → shared s (mirrored t) i b ≡ ltb (payer s t i b) (s .processors)
+unfolding shared payer
+shared-payer s t i b = ap (λ P. ltb (other (s .processors) i P) (s .processors)) (λ x j. keeps-holds s t j b x)
+
+module _ (s : Setup) (ok : Fits s) (t : Tables) (q : Request) (qs : List Request) (v : Valid s q) (hd : holds s t (q .processor) (target s q) ≡ true) where
+  fine : refusal s (mirrored t) (q ∷ qs) Complete ≡ 0
+  unfolding completionRefusal
+  fine = rw (
+    lt-ltb (q .processor) (s .processors) (v .processor),
+    lt-ltb (variableOf q .0) (variables s) (v .variable),
+    keeps-holds s t (q .processor) (target s q) ∙ hd,
+  )
+
+  -- the writer's counter becomes full
+  writer-held : map on (set (t .counters) (slot s (q .processor) (target s q)) (fetchPrice s)) ≡ map on (t .counters)
+  writer-held =
+      let i : ℕ = q .processor in
+      let b : Block = target s q in
+      held-same (t .counters) (slot s i b) (fetchPrice s) (ok .some-fetch) (holder-slot s t i b hd .0)
+
+  read-leads : isWrite q ≡ false → Leads s (mirrored t) (q ∷ qs) (Complete ∷ []) (mirrored t) qs nothing
+  unfolding rivalCompleted completionCycles
+  read-leads e = leads-one s (mirrored t) (q ∷ qs) Complete (mirrored t) nothing fine (rw e) (rw e)
+
+  module _ (e : isWrite q ≡ true) (o x : ℕ) where
+    alone-leads : ltb (payer s t (q .processor) (target s q)) (s .processors) ≡ false
+        → Leads s (mirrored t) (q ∷ qs) (Complete ∷ []) (mirrored (writtenAlone s t (slot s (q .processor) (target s q)) o x)) qs nothing
+    unfolding rivalCompleted completionCycles writtenAlone
+    alone-leads l =
+        let f = shared-payer s t (q .processor) (target s q) ∙ l in
+        leads-one s (mirrored t) (q ∷ qs) Complete (mirrored (writtenAlone s t (slot s (q .processor) (target s q)) o x)) nothing fine
+        (rw (e, f) (rival-path refl (sym writer-held) refl)) (rw (e, f))
+
+    broadcast-leads : ltb (payer s t (q .processor) (target s q)) (s .processors) ≡ true
+        → Leads s (mirrored t) (q ∷ qs) (Complete ∷ []) (mirrored (broadcast s t (slot s (q .processor) (target s q)) (target s q) o x)) qs (cost3 0 0 1)
+    unfolding rivalCompleted completionCycles broadcast
+    broadcast-leads l =
+        let f = shared-payer s t (q .processor) (target s q) ∙ l in
+        leads-one s (mirrored t) (q ∷ qs) Complete (mirrored (broadcast s t (slot s (q .processor) (target s q)) (target s q) o x)) (cost3 0 0 1) fine
+        (rw (e, f) (rival-path refl (sym writer-held) refl)) (rw (e, f))
+
+-- the payer's counter falls; at 0 its copy goes
+charged-leads : (s : Setup) (ok : Fits s) (t : Tables) (sd : Sound s t) (qs : List Request) (j : ℕ) (b : Block) → j < s .processors
+    → holdsAt t (slot s j b) b ≡ true → mark t (slot s j b) ≢ 1
+    → Leads s (mirrored t) qs (cond (eqb (counter t (slot s j b)) 1) (Drop j b ∷ []) []) (mirrored (charged s t (slot s j b))) qs nothing
+unfolding charged
+charged-leads s ok t sd qs j b hj hd un = go (eqb (counter t k) 1) refl
+  where
+    k : ℕ
+    k = slot s j b
+
+    lowered : Tables
+    lowered = tables (t .blocks) (set (t .counters) k (counter t k - 1)) (t .marks) (t .words) (t .memory)
+
+    go : (c : Bool) → eqb (counter t k) 1 ≡ c → Leads s (mirrored t) qs (cond c (Drop j b ∷ []) []) (mirrored (cond c (emptied s t k) lowered)) qs nothing
+    go true e = drop-leads s ok t sd qs j b k hj refl hd (omega (arith, sd .line k (slot-lt s ok j b hj) .mark-le))
+    go false e =
+        let h = holdsAt-true t k b hd .0 in
+        rw (held-same (t .counters) k (counter t k - 1) (omega (arith, eqb-false (counter t k) 1 e)) h) (leads-none s (mirrored t) qs)
+
+module _ (s : Setup) (ok : Fits s) (t : Tables) (sd : Sound s t) (q : Request) (qs : List Request) (v : Valid s q) (hd : holds s t (q .processor) (target s q) ≡ true)
+    (e : isWrite q ≡ true) (o x : ℕ) (ho : o < s .words) where
+  abbrev i : ℕ
+  i = q .processor
+
+  abbrev b : Block
+  b = target s q
+
+  paying-leads : payer s t (q .processor) (target s q) < s .processors
+      → Leads s (mirrored (broadcast s t (slot s (q .processor) (target s q)) (target s q) o x)) qs
+      (cond (eqb (counter t (slot s (payer s t (q .processor) (target s q)) (target s q))) 1) (Drop (payer s t (q .processor) (target s q)) (target s q) ∷ []) [])
+      (mirrored (charged s (broadcast s t (slot s (q .processor) (target s q)) (target s q) o x) (slot s (payer s t (q .processor) (target s q)) (target s q)))) qs nothing
+  unfolding broadcast
+  paying-leads l =
+      let j : ℕ = payer s t i b in
+      let t′ : Tables = broadcast s t (slot s i b) b o x in
+      let a = payer-found s t i b l in
+      let w = shared-facts s ok t sd i b (v .processor) o x ho hd l in
+      let c : counter t′ (slot s j b) ≡ counter t (slot s j b)
+      = at-set-other (t .counters) (slot s i b) (fetchPrice s) (slot s j b) (λ y. a .differs (slot-inj s ok j i b b y)) in
+      rw c at (charged-leads s ok t′ (w .sound) qs j b l (true-holdsAt t′ (slot s j b) b (w .holds) (holder-slot s t j b (a .passes) .1)) (w .clean))
+
+  written-leads : Leads s (mirrored t) (q ∷ qs) (Complete ∷ paying s t (q .processor) (target s q)) (mirrored (written s t (q .processor) (target s q) o x)) qs
+      (cost3 0 0 (updateCycles s t (q .processor) (target s q)))
+  unfolding paying written updateCycles
+  written-leads = go (ltb j (s .processors)) refl
+    where
+      j : ℕ
+      j = payer s t i b
+
+      t′ : Tables
+      t′ = broadcast s t (slot s i b) b o x
+
+      go : (c : Bool) → ltb j (s .processors) ≡ c
+          → Leads s (mirrored t) (q ∷ qs) (Complete ∷ cond (c && eqb (counter t (slot s j b)) 1) (Drop j b ∷ []) [])
+          (mirrored (cond c (charged s t′ (slot s j b)) (writtenAlone s t (slot s i b) o x))) qs (cost3 0 0 (cond c 1 0))
+      go true l =
+          leads-on s (cost3 0 0 1) (bill-path (omega arith) (omega arith) (omega arith)) (broadcast-leads s ok t q qs v hd e o x l)
+          (paying-leads (ltb-true _ _ l))
+      go false l = alone-leads s ok t q qs v hd e o x l
+
+-- ---- a request, and a list of them
+
+serving-leads : (s : Setup) (ok : Fits s) (t : Tables) (sd : Sound s t) (q : Request) (qs : List Request) → Valid s q
+    → Leads s (mirrored t) (q ∷ qs) (serving s t q) (mirrored (served s t q)) qs (bill s t q)
+unfolding serving served bill
+serving-leads s ok t sd q qs v =
+    leads-on s _ (bill-path (omega arith) (omega arith) (omega arith))
+    (obtaining-leads s ok t sd (q ∷ qs) i b (v .processor) (target-lt s ok q v)) (go (isWrite q) refl)
+  where
+    i : ℕ
+    i = q .processor
+
+    b : Block
+    b = target s q
+
+    t′ : Tables
+    t′ = readied s t q
+
+    sd′ : Sound s (readied s t q)
+    sd′ = sound-obtained s ok t sd i b (v .processor) (target-lt s ok q v)
+
+    hd : holds s (readied s t q) (q .processor) (target s q) ≡ true
+    hd = obtained-holds s ok t sd i b (v .processor)
+
+    o : ℕ
+    o = offsetOf s (variableOf q)
+
+    go : (c : Bool) → isWrite q ≡ c
+        → Leads s (mirrored t′) (q ∷ qs) (Complete ∷ cond c (paying s t′ i b) []) (mirrored (cond c (written s t′ i b o (newValue q)) t′)) qs
+        (cost3 0 0 (cond c (updateCycles s t′ i b) 0))
+    go true e = written-leads s ok t′ sd′ q qs v hd e o (newValue q) (offset-lt s ok (variableOf q))
+    go false e = read-leads s ok t′ q qs v hd e
+
+-- from copies r, where the engine's tables are t
+record Whole (s : Setup) (t : Tables) (r : Rival) (qs : List Request) : Type 0 where
+  legal : Legal s r qs (engineSchedule s t qs)
+  pays : costs s r qs (engineSchedule s t qs) ≡ spent s t qs
+  last : lastCopies s r qs (engineSchedule s t qs) ≡ mirrored (servedAll s t qs)
+
+whole : (s : Setup) (ok : Fits s) (t : Tables) (sd : Sound s t) (qs : List Request) → AllValid s qs → Whole s t (mirrored t) qs
+whole s ok t sd [] v = record { legal = refl; pays = refl; last = refl }
+whole s ok t sd (q ∷ qs) v =
+    let es : List Entry = engineSchedule s (served s t q) qs in
+    let f = serving-leads s ok t sd q qs (v .0) in
+    let w = whole s ok (served s t q) (sound-served s ok t sd q (v .0)) qs (v .1) in
+    record { legal = f .legal es (w .legal); pays = f .pays es ∙ ap (plus (bill s t q)) (w .pays); last = f .last es ∙ w .last }
+
+-- ---- from fresh tables
+
+mirrored-fresh : (s : Setup) → mirrored (fresh s) ≡ noCopies s
+unfolding fresh noCopies
+mirrored-fresh s = rival-path refl (held-zeros (slots s)) refl
+
+pub engine-is-rival : (s : Setup) → Fits s → (qs : List Request) → AllValid s qs → EngineIsRival s qs
+engine-is-rival s ok qs v =
+    let w : Whole s (fresh s) (noCopies s) qs = subst (λ r. Whole s (fresh s) r qs) (mirrored-fresh s) (whole s ok (fresh s) (sound-fresh s) qs v) in
+    record {
+      legal = w .legal;
+      bill = w .pays;
+      copies = record {
+        held = λ k h. ap (λ (r : Rival). at (r .held) k) (w .last) ∙ at-held (servedAll s (fresh s) qs .counters) k;
+        blocks = λ k h. ap (λ (r : Rival). at (r .blocks) k) (w .last);
+        marks = λ k h. ap (λ (r : Rival). at (r .marks) k) (w .last);
+      };
+    }
+
+-- ---- the requests that a list of runs takes
+
+all-valid : (s : Setup) (n : ℕ) (rs : List Run) → AllValid s (takenAll s n rs)
+all-valid s n [] = tt
+all-valid s n (r ∷ rs) =
+    valid-append s (takenRun s n r) (takenAll s (n + length (takenRun s n r)) rs) (run-valid s n r) (all-valid s (n + length (takenRun s n r)) rs)
+
+pub runs-rival : (s : Setup) → inRange s ≡ true → (n : ℕ) (rs : List Run) → EngineIsRival s (takenAll s n rs)
+runs-rival s ranged n rs = engine-is-rival s (inRange-fits s ranged) (takenAll s n rs) (all-valid s n rs)
