@@ -1,0 +1,96 @@
+-- A hit or a miss; the tables keep their lengths when the block in the way leaves.
+use borrow.Author.Needs.{needs}
+use mathlib.Core.Path.{sym, ap, _∙_}
+use denote.Ref.{now}
+use Rattle.protocol.specs.Tables.{Tables, tables}
+use Rattle.protocol.specs.Rules.{obtained, fetched, fetchCycles, writeBackCycles}
+use Rattle.protocol.proofs.Lengths.{sized-evicted}
+use Rattle.engine.specs.Usable.{obtainBill}
+use Rattle.engine.proofs.obtain.Statement.{statement}
+use Rattle.engine.proofs.obtain.Tie as tie
+
+holds-requires : tie.Need-holds-requires
+holds-requires c κs = search needs
+
+same-length : tie.Need-same-length
+same-length c = search needs
+
+same-length-2 : tie.Need-same-length-2
+same-length-2 c = search needs
+
+returns : tie.Need-returns
+unfolding obtained obtainBill fetchCycles writeBackCycles
+returns c =
+    let start = c .before .before .before .before .before .before .before .before .before in
+    let a = start .args in
+    let h = sym (c .before .holds .ensures (now (a .marks)) (now (a .words)) (now (a .memory))) ∙ c .if1 .taken in (rw h, rw h)
+
+slot-requires : tie.Need-slot-requires
+slot-requires c κs = search needs
+
+evict-requires : tie.Need-evict-requires
+evict-requires c κs =
+    let slot′ = c .before .before .before .before .before .slot in
+    let start = c .before .before .before .before .before .before .before .before .before .before .before .before .before .before .before in
+    (slot′ .ensures .within, (start .pre .1 .1 .1 .named (slot′ .result), start .pre .1 .1 .1 .lengths))
+
+fetch-requires : tie.Need-fetch-requires
+fetch-requires c κs =
+    let start = c .before .before .before .before .before .before .before .before .before .before .before .before .before .before .before .before .before .before .before .before .before .before .before .before .before .before .before .before .before .before .before in
+    let slot′ = c .before .before .before .before .before .before .before .before .before .before .before .before .before .before .before .before .before .before .before .before .before .slot in
+    let evict′ = c .before .before .before .before .before .before .before .before .before .before .before .before .before .before .before .evict in
+    let a = start .args in
+    let t = tables (now (a .blocks)) (now (a .counters)) (now (a .marks)) (now (a .words)) (now (a .memory)) in
+    (start .pre .0, (slot′ .ensures .within, (start .pre .1 .1 .0, rw (evict′ .ensures .1) (sized-evicted (a .setup) t (start .pre .1 .1 .1 .lengths) (slot′ .result)))))
+
+fetch-price-requires : tie.Need-fetch-price-requires
+fetch-price-requires c κs = search needs
+
+same-length-3 : tie.Need-same-length-3
+same-length-3 c = search needs
+
+same-length-4 : tie.Need-same-length-4
+same-length-4 c = search needs
+
+same-length-5 : tie.Need-same-length-5
+same-length-5 c = search needs
+
+same-length-6 : tie.Need-same-length-6
+same-length-6 c = search needs
+
+same-length-7 : tie.Need-same-length-7
+same-length-7 c = search needs
+
+returns-2 : tie.Need-returns-2
+unfolding obtained obtainBill fetchCycles writeBackCycles
+returns-2 c =
+    let start = c .before .before .before .before .before .before .before .before .before .before .before .before .before .before .before .before .before .before .before .before .before .before .before .before .before .before .before .before .before .before .before .before .before .before .before .before .before .before .before .before .before .before .before in
+    let holds′ = c .before .before .before .before .before .before .before .before .before .before .before .before .before .before .before .before .before .before .before .before .before .before .before .before .before .before .before .before .before .before .before .before .before .before .before .holds in
+    let if1′ = c .before .before .before .before .before .before .before .before .before .before .before .before .before .before .before .before .before .before .before .before .before .before .before .before .before .before .before .before .before .before .before .before .before .before .if1 in
+    let evict′ = c .before .before .before .before .before .before .before .before .before .before .before .before .before .before .before .before .before .before .before .before .before .before .before .before .before .before .before .evict in
+    let slot′ = c .before .before .before .before .before .before .before .before .before .before .before .before .before .before .before .before .before .before .before .before .before .before .before .before .before .before .before .before .before .before .before .before .before .slot in
+    let fetch′ = c .before .before .before .before .before .before .before .before .before .before .before .fetch in
+    let a = start .args in
+    let h = sym (holds′ .ensures (now (a .marks)) (now (a .words)) (now (a .memory))) ∙ if1′ .left in (
+      rw (h, c .fetch-price .ensures, evict′ .ensures .0, slot′ .ensures .value),
+      rw (h, ← (slot′ .ensures .value)) (fetch′ .ensures ∙ ap (λ (t : Tables). fetched (a .setup) t (slot′ .result) (a .block)) (evict′ .ensures .1)),
+    )
+
+pub obtain-spec : {M : Type 1} → statement M
+obtain-spec =
+    tie.close
+    (tie.spec
+    holds-requires
+    same-length
+    same-length-2
+    returns
+    slot-requires
+    evict-requires
+    fetch-requires
+    fetch-price-requires
+    same-length-3
+    same-length-4
+    same-length-5
+    same-length-6
+    same-length-7
+    returns-2)

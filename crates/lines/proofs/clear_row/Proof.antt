@@ -1,0 +1,30 @@
+-- A row starts at its index of word 0.
+use borrow.Author.Needs.{needs}
+use native.Mathlib.Nat.{add-zero}
+use native.Mathlib.Omega.{arith}
+use Rattle.protocol.specs.Board.{wordIndex}
+use Rattle.lines.proofs.clear_row.Statement.{statement}
+use Rattle.lines.proofs.clear_row.Tie as tie
+
+cast-n : tie.Need-cast-n
+cast-n c = search needs
+
+mul-clear-part : tie.Need-mul-clear-part
+unfolding wordIndex
+mul-clear-part c = omega arith
+
+clear-part-requires : tie.Need-clear-part-requires
+unfolding wordIndex
+clear-part-requires c κs = omega arith
+
+same-length : tie.Need-same-length
+same-length c = search needs
+
+returns : tie.Need-returns
+unfolding wordIndex
+returns c =
+    let clear-part′ = c .before .before .clear-part in
+    rw add-zero (clear-part′ .ensures)
+
+pub clear-row-spec : {M : Type 1} → statement M
+clear-row-spec = tie.close (tie.spec cast-n mul-clear-part clear-part-requires same-length returns)

@@ -1,0 +1,88 @@
+-- The loop's invariant: each pair of words passed is the same.
+-- Assumes nothing.
+use mathlib.Core.Path.{_≡_, refl, sym, ap, _∙_, subst}
+use mathlib.Core.Bool.{Bool, true}
+use mathlib.Core.List.{List}
+use Prim.Native.Nat.{ℕ, _+_, _-_, _≤_}
+use native.Mathlib.Omega.{arith}
+use borrow.Author.Needs.{needs}
+use borrow.Author.Tests.{eq-eqb, ne-eqb}
+use denote.Ref.{now}
+use lib.Dec.{eqb}
+use Rattle.protocol.specs.Lists.{at, all}
+use Rattle.parts.proofs.Laws.{all-more, all-false}
+use Rattle.parts.proofs.same_part.Statement.{statement}
+use Rattle.parts.proofs.same_part.Tie as tie
+
+abbrev sameAt : List ℕ → ℕ → List ℕ → ℕ → ℕ → Bool
+sameAt x a y b o = eqb (at x (a + o)) (at y (b + o))
+
+abbrev Inv-loop : tie.InvT-loop
+Inv-loop x a y b n o₀ o = (o ≤ n) × (all o (sameAt x a y b) ≡ true)
+
+abbrev μ-loop : tie.MeasureT-loop
+μ-loop x a y b n o₀ o = n - o
+
+loop-holds : tie.Need-loop-holds Inv-loop μ-loop
+loop-holds c = (omega arith, refl)
+
+add-if1 : tie.Need-add-if1 Inv-loop μ-loop
+add-if1 c = search needs
+
+mul-if1 : tie.Need-mul-if1 Inv-loop μ-loop
+mul-if1 c = search needs
+
+shared-slice-read-if1 : tie.Need-shared-slice-read-if1 Inv-loop μ-loop
+shared-slice-read-if1 c = search needs
+
+add-if1-2 : tie.Need-add-if1-2 Inv-loop μ-loop
+add-if1-2 c = search needs
+
+mul-if1-2 : tie.Need-mul-if1-2 Inv-loop μ-loop
+mul-if1-2 c = search needs
+
+shared-slice-read-if1-2 : tie.Need-shared-slice-read-if1-2 Inv-loop μ-loop
+shared-slice-read-if1-2 c = search needs
+
+returns : tie.Need-returns Inv-loop μ-loop
+returns c =
+    let s = c .before .before .before .before .before .args in
+    sym (all-false (sameAt (now (s .x)) (s .a) (now (s .y)) (s .b)) (s .n) (c .before .before .before .before .loop .o) (omega arith) (ne-eqb _ _ (c .if1 .taken)))
+
+add-o : tie.Need-add-o Inv-loop μ-loop
+add-o c = search needs
+
+loop-less : tie.Need-loop-less Inv-loop μ-loop
+loop-less c = search needs
+
+loop-again : tie.Need-loop-again Inv-loop μ-loop
+loop-again c =
+    let s = c .before .before .before .before .before .args in
+    let l = c .before .before .before .before .loop in
+    (omega arith, all-more (sameAt (now (s .x)) (s .a) (now (s .y)) (s .b)) (l .o) (l .inv .1) (eq-eqb _ _ (c .if1 .left)))
+
+returns-2 : tie.Need-returns-2 Inv-loop μ-loop
+returns-2 c =
+    let s = c .before .before .args in
+    let l = c .before .loop in
+    let e : l .o ≡ s .n = omega arith in
+    sym (rw e at (l .inv .1))
+
+pub same-part-spec : {M : Type 1} → statement M
+same-part-spec =
+    tie.close
+    (tie.spec
+    Inv-loop
+    μ-loop
+    loop-holds
+    add-if1
+    mul-if1
+    shared-slice-read-if1
+    add-if1-2
+    mul-if1-2
+    shared-slice-read-if1-2
+    returns
+    add-o
+    loop-less
+    loop-again
+    returns-2)

@@ -1,0 +1,102 @@
+use Prim.Native.Nat.{_*_}
+use native.Mathlib.Nat.{add-sub-cancel-left, add-zero}
+use native.Mathlib.Omega.{arith}
+use denote.Ref.{now}
+use lib.ListN.{length}
+use Rattle.protocol.specs.Board.{slot, slots, wordIndex}
+use Rattle.holders.proofs.Rows.{row-end}
+use Rattle.tables.proofs.Tests.{failed, passed, looked-is, shown}
+use borrow.Author.Needs.{needs}
+use Rattle.tables.proofs.look.Statement.{statement}
+use Rattle.tables.proofs.look.Tie as tie
+
+sees-requires : tie.Need-sees-requires
+sees-requires c κs = search needs
+
+sub-result : tie.Need-sub-result
+sub-result c = search needs
+
+part-result-start : tie.Need-part-result-start
+part-result-start c = search needs
+
+part-result-end : tie.Need-part-result-end
+part-result-end c = search needs
+
+returns : tie.Need-returns
+returns c =
+    let a = c .before .before .before .before .before .before .args in
+    rw (looked-is (a .setup) (now (a .blocks)) (now (a .counters)) (now (a .words)) (a .processor) (a .block), failed (c .before .before .sees .ensures) (c .before .if1 .taken))
+
+cast-p : tie.Need-cast-p
+cast-p c = search needs
+
+slot-requires : tie.Need-slot-requires
+slot-requires c κs =
+    let a = c .before .before .before .before .before .before .args in
+    let v = shown (a .setup) (now (a .blocks)) (now (a .counters)) (length (now (a .words))) (a .processor) (a .block) (passed (c .before .before .sees .ensures) (c .before .if1 .left)) in
+    (v .fits, omega (arith, v .processor, v .fits))
+
+mul-a : tie.Need-mul-a
+unfolding wordIndex
+mul-a c =
+    let a = c .before .before .before .before .before .before .before .args in
+    let v = shown (a .setup) (now (a .blocks)) (now (a .counters)) (length (now (a .words))) (a .processor) (a .block) (passed (c .before .before .before .sees .ensures) (c .before .before .if1 .left)) in
+    omega (arith, row-end (a .setup) (c .slot .result) (slots (a .setup)) (c .slot .ensures .within), v .words)
+
+add-e : tie.Need-add-e
+unfolding wordIndex
+add-e c =
+    let a = c .before .before .before .before .before .before .before .args in
+    let v = shown (a .setup) (now (a .blocks)) (now (a .counters)) (length (now (a .words))) (a .processor) (a .block) (passed (c .before .before .before .sees .ensures) (c .before .before .if1 .left)) in
+    omega (arith, row-end (a .setup) (c .slot .result) (slots (a .setup)) (c .slot .ensures .within), v .words)
+
+mul-result : tie.Need-mul-result
+unfolding wordIndex
+mul-result c =
+    let a = c .before .before .before .before .before .before .before .args in
+    let v = shown (a .setup) (now (a .blocks)) (now (a .counters)) (length (now (a .words))) (a .processor) (a .block) (passed (c .before .before .before .sees .ensures) (c .before .before .if1 .left)) in
+    omega (arith, row-end (a .setup) (c .slot .result) (slots (a .setup)) (c .slot .ensures .within), v .words)
+
+sub-result-2 : tie.Need-sub-result-2
+sub-result-2 c = search needs
+
+part-result-start-2 : tie.Need-part-result-start-2
+part-result-start-2 c = search needs
+
+part-result-end-2 : tie.Need-part-result-end-2
+unfolding wordIndex
+part-result-end-2 c =
+    let a = c .before .before .before .before .before .before .before .args in
+    let v = shown (a .setup) (now (a .blocks)) (now (a .counters)) (length (now (a .words))) (a .processor) (a .block) (passed (c .before .before .before .sees .ensures) (c .before .before .if1 .left)) in
+    omega (arith, row-end (a .setup) (c .slot .result) (slots (a .setup)) (c .slot .ensures .within), v .words)
+
+returns-2 : tie.Need-returns-2
+unfolding wordIndex
+returns-2 c =
+    let a = c .before .before .before .before .before .before .before .before .args in
+    rw (
+      looked-is (a .setup) (now (a .blocks)) (now (a .counters)) (now (a .words)) (a .processor) (a .block),
+      passed (c .before .before .before .before .sees .ensures) (c .before .before .before .if1 .left),
+      c .before .slot .ensures .value,
+      add-sub-cancel-left (slot (a .setup) (a .processor) (a .block) * a .setup .words) (a .setup .words),
+      add-zero,
+    )
+
+pub look-spec : {M : Type 1} → statement M
+look-spec =
+    tie.close
+    (tie.spec
+    sees-requires
+    sub-result
+    part-result-start
+    part-result-end
+    returns
+    cast-p
+    slot-requires
+    mul-a
+    add-e
+    mul-result
+    sub-result-2
+    part-result-start-2
+    part-result-end-2
+    returns-2)

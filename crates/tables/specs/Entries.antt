@@ -1,0 +1,21 @@
+-- The tests of condition 2 and of a look on lengths.
+use Prim.Native.Nat.{ℕ, _*_}
+use mathlib.Core.Bool.{Bool, _&&_}
+use mathlib.Core.List.{List}
+use lib.ListN.{length}
+use lib.Dec.{ltb, eqb}
+use Rattle.protocol.specs.Board.{inRange, slots, variables}
+use Rattle.protocol.specs.Tables.{copies, holds}
+use Rattle.protocol.specs.declared.Setup.{Setup}
+use Rattle.protocol.specs.declared.Block.{Block}
+
+-- protocol's sized, on the tables' lengths
+unfoldable pub lengthsFit : Setup → ℕ → ℕ → ℕ → ℕ → ℕ → Bool
+lengthsFit s b c m w g =
+    eqb b (slots s) && eqb c (slots s) && eqb m (slots s) && eqb w (slots s * s .words) && eqb g (variables s)
+
+-- the condition of protocol's looked, where there are n words
+unfoldable pub seen : Setup → List ℕ → List ℕ → ℕ → ℕ → Block → Bool
+seen s blocks counters n i b =
+    inRange s && (eqb (length blocks) (slots s) && eqb (length counters) (slots s) && eqb n (slots s * s .words)) && ltb i (s .processors)
+    && ltb (b .0) (s .blocks) && holds s (copies blocks counters) i b
