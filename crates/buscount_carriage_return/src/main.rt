@@ -1,0 +1,4 @@
+// A carriage return ends an address.
+fn main() {
+    report::run();
+}

@@ -1,0 +1,4 @@
+// Digits of either case, tabs and ignored text.
+fn main() {
+    report::run();
+}

@@ -1,0 +1,4 @@
+// 8 digits are taken, 9 are malformed.
+fn main() {
+    report::run();
+}

@@ -1,0 +1,4 @@
+// Empty input has no line.
+fn main() {
+    report::run();
+}

@@ -1,0 +1,4 @@
+// An empty line is malformed.
+fn main() {
+    report::run();
+}

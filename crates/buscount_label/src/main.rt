@@ -1,0 +1,4 @@
+// Label 3 is refused, before its processor.
+fn main() {
+    report::run();
+}

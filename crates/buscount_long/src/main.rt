@@ -1,0 +1,4 @@
+// A trace longer than one read.
+fn main() {
+    report::run();
+}

@@ -1,0 +1,4 @@
+// A last line may lack its newline.
+fn main() {
+    report::run();
+}

@@ -1,0 +1,4 @@
+// Variable 255 is taken, 256 is refused.
+fn main() {
+    report::run();
+}

@@ -1,0 +1,4 @@
+// 80 bytes are taken, 81 are malformed.
+fn main() {
+    report::run();
+}

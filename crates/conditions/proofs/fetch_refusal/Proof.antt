@@ -1,0 +1,59 @@
+-- 3 or 8 decides, else whether the line is empty.
+use borrow.Author.Needs.{needs}
+use mathlib.Core.Path.{sym, _∙_}
+use mathlib.Core.Bool.{cond}
+use native.Mathlib.Omega.{arith}
+use borrow.Author.Tests.{eq-eqb, ne-eqb}
+use denote.Ref.{now}
+use lib.Dec.{eqb}
+use Rattle.protocol.specs.Lists.{at}
+use Rattle.protocol.specs.Refusals.{noRefusal, lineInUse}
+use Rattle.protocol.specs.Board.{slot}
+use Rattle.copies.proofs.Laws.{names-processor}
+use Rattle.conditions.proofs.Laws.{move-refused, move-passed}
+use Rattle.conditions.proofs.fetch_refusal.Statement.{statement}
+use Rattle.conditions.proofs.fetch_refusal.Tie as tie
+
+move-refusal-requires : tie.Need-move-refusal-requires
+move-refusal-requires c κs = search needs
+
+returns : tie.Need-returns
+returns c b m =
+    let a = c .before .before .before .args in
+    move-refused (a .setup) (a .processor) (a .block) (c .before .move-refusal .result) (c .before .move-refusal .ensures) (c .if1 .taken)
+    (cond (eqb (at (now (a .held)) (slot (a .setup) (a .processor) (a .block))) 0) noRefusal lineInUse)
+
+slot-requires : tie.Need-slot-requires
+slot-requires c κs =
+    let a = c .before .before .before .args in
+    (c .before .before .before .pre .0, names-processor (a .setup) (a .processor) (a .block) noRefusal (sym (c .before .move-refusal .ensures) ∙ c .if1 .left))
+
+mul-if2 : tie.Need-mul-if2
+mul-if2 c = search needs
+
+shared-slice-read-if2 : tie.Need-shared-slice-read-if2
+shared-slice-read-if2 c = search needs
+
+returns-2 : tie.Need-returns-2
+returns-2 c b m =
+    let a = c .before .before .before .before .before .before .args in
+    rw (← (c .before .before .slot .ensures .value), ne-eqb (at (now (a .held)) (c .before .before .slot .result)) 0 (c .if2 .taken))
+    (move-passed (a .setup) (a .processor) (a .block) (c .before .before .before .before .move-refusal .result) (c .before .before .before .before .move-refusal .ensures) (c .before .before .before .if1 .left) lineInUse)
+
+returns-3 : tie.Need-returns-3
+returns-3 c b m =
+    let a = c .before .before .before .before .before .before .args in
+    rw (← (c .before .before .slot .ensures .value), eq-eqb (at (now (a .held)) (c .before .before .slot .result)) 0 (c .if2 .left))
+    (move-passed (a .setup) (a .processor) (a .block) (c .before .before .before .before .move-refusal .result) (c .before .before .before .before .move-refusal .ensures) (c .before .before .before .if1 .left) noRefusal)
+
+pub fetch-refusal-spec : {M : Type 1} → statement M
+fetch-refusal-spec =
+    tie.close
+    (tie.spec
+    move-refusal-requires
+    returns
+    slot-requires
+    mul-if2
+    shared-slice-read-if2
+    returns-2
+    returns-3)

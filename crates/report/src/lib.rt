@@ -1,0 +1,150 @@
+// Reads a din trace on standard input and prints what it came to.
+ghost use mathlib.Core.Path.{_≡_};
+ghost use Rattle.protocol.specs.Tables.{tables, fresh};
+ghost use Rattle.trace.specs.Trace.{traceSetup};
+ghost use Rattle.trace.specs.Counting.{stage};
+ghost use Rattle.report.specs.Reading.{Reached, Reported};
+use libc::STDERR_FILENO;
+use libc::STDIN_FILENO;
+use libc::STDOUT_FILENO;
+use trace::Count;
+use trace::Report;
+
+// A trace after a read: whether to read on, whether a read failed, and what was counted.
+struct Progress {
+    going: bool,
+    failed: bool,
+    count: Count,
+}
+
+// Reads once, and counts what came. Reading stops at the end of the input, at an error and after a refusal.
+fn read_some(
+    count: Count,
+    buffer: &mut [u8],
+    blocks: &mut [u32],
+    counters: &mut [u32],
+    marks: &mut [u32],
+    words: &mut [u32],
+    memory: &mut [u32],
+) -> Progress
+    requires { ⌜ Reached (stage count (now blocks) (now counters) (now marks) (now words) (now memory)) ⌝ }
+    ensures { λ r. ⌜ Reached (stage (r .count) (now (blocks .exit)) (now (counters .exit)) (now (marks .exit)) (now (words .exit)) (now (memory .exit))) ⌝ }
+{
+    let got = libc::read(STDIN_FILENO, buffer);
+    if got <= 0 {
+        return Progress {
+            going: false,
+            failed: got < 0,
+            count: count,
+        };
+    }
+    let n = io::count(got, buffer);
+    let next = trace::feed(count, &buffer[..n], blocks, counters, marks, words, memory);
+    let refusal = next.refusal;
+    Progress {
+        going: refusal == protocol::NO_REFUSAL,
+        failed: false,
+        count: next,
+    }
+}
+
+// Reads to the end of the trace. The count of turns is there so that the loop ends.
+fn read_all(
+    buffer: &mut [u8],
+    blocks: &mut [u32],
+    counters: &mut [u32],
+    marks: &mut [u32],
+    words: &mut [u32],
+    memory: &mut [u32],
+) -> Progress
+    requires { ⌜ tables (now blocks) (now counters) (now marks) (now words) (now memory) ≡ fresh traceSetup ⌝ }
+    ensures { λ r. ⌜ Reached (stage (r .count) (now (blocks .exit)) (now (counters .exit)) (now (marks .exit)) (now (words .exit)) (now (memory .exit))) ⌝ }
+{
+    let mut at = Progress {
+        going: true,
+        failed: false,
+        count: Count::new(),
+    };
+    let mut turns = u64::MAX;
+    while turns > 0 {
+        at = read_some(at.count, buffer, blocks, counters, marks, words, memory);
+        if !at.going {
+            return at;
+        }
+        turns -= 1;
+    }
+    at
+}
+
+// One line: a name and a number.
+fn print_line(name: &[u8], value: u64) {
+    io::write_all(STDOUT_FILENO, name);
+    io::print_decimal(STDOUT_FILENO, value);
+    io::write_all(STDOUT_FILENO, b"\n");
+}
+
+// The six lines.
+fn print_report(report: Report) {
+    let account = report.account;
+    let total = account.fetch as u64 + account.write_back as u64 + account.update as u64;
+    print_line(b"requests ", account.requests as u64);
+    print_line(b"fetch ", account.fetch as u64);
+    print_line(b"write-back ", account.write_back as u64);
+    print_line(b"update ", account.update as u64);
+    print_line(b"total ", total);
+    io::write_all(STDOUT_FILENO, b"ended ");
+    io::print_decimal(STDOUT_FILENO, report.refusal as u64);
+    print_line(b" ", report.line as u64);
+}
+
+// Whether a read failed, and the report of what was read.
+struct Answer {
+    failed: bool,
+    report: Report,
+}
+
+// The report of the trace on standard input.
+fn read_report(
+    blocks: &mut [u32],
+    counters: &mut [u32],
+    marks: &mut [u32],
+    words: &mut [u32],
+    memory: &mut [u32],
+) -> Answer
+    requires { ⌜ tables (now blocks) (now counters) (now marks) (now words) (now memory) ≡ fresh traceSetup ⌝ }
+    ensures { λ r. ⌜ Reported (r .report) ⌝ }
+{
+    let mut buffer = io::large_buffer();
+    let end = read_all(&mut buffer, blocks, counters, marks, words, memory);
+    let count = end.count;
+    let report = trace::finish(count, blocks, counters, marks, words, memory);
+    Answer {
+        failed: end.failed,
+        report: report,
+    }
+}
+
+// The program `buscount`. After a read error no totals are printed.
+pub fn run() {
+    let mut blocks = [0u32; 32];
+    let mut counters = [0u32; 32];
+    let mut marks = [0u32; 32];
+    let mut words = [0u32; 128];
+    let mut memory = [0u32; 256];
+    let answer = read_report(
+        &mut blocks,
+        &mut counters,
+        &mut marks,
+        &mut words,
+        &mut memory,
+    );
+    if answer.failed {
+        io::write_all(
+            STDERR_FILENO,
+            b"buscount: standard input could not be read.\n",
+        );
+        return;
+    }
+    let report = answer.report;
+    print_report(report);
+}

@@ -1,0 +1,108 @@
+-- The refusal, the cycles and the copies are those of the completion.
+use borrow.Author.Needs.{needs}
+use mathlib.Core.Path.{sym, subst, _∙_}
+use mathlib.Core.List.{[], _∷_}
+use native.Mathlib.Omega.{arith}
+use denote.Ref.{now}
+use Rattle.protocol.specs.Rival.{Rival}
+use Rattle.copies.specs.Copies.{lent, Sized, completion}
+use Rattle.schedule.specs.Stages.{stage, completed}
+use Rattle.schedule.proofs.Laws.{turned-refused, turned-played, completion-refusal-is, completion-cost-is, cheap-completion, completes-processor}
+use Rattle.schedule.proofs.Lengths.{sized-played}
+use Rattle.schedule.proofs.complete.Statement.{statement}
+use Rattle.schedule.proofs.complete.Tie as tie
+
+completion-refusal-requires : tie.Need-completion-refusal-requires
+completion-refusal-requires c κs = search needs
+
+reject-requires : tie.Need-reject-requires
+reject-requires c κs = search needs
+
+same-length : tie.Need-same-length
+same-length c = search needs
+
+same-length-2 : tie.Need-same-length-2
+same-length-2 c = search needs
+
+same-length-3 : tie.Need-same-length-3
+same-length-3 c = search needs
+
+returns : tie.Need-returns
+unfolding completed
+returns c =
+    let a = c .before .before .before .before .before .before .before .before .before .before .before .before .before .before .before .before .before .args in
+    let r = lent (a .blocks) (a .held) (a .marks) in
+    c .before .before .before .before .before .before .reject .ensures
+    ∙ turned-refused (a .setup) (stage (a .p) (now (a .blocks)) (now (a .held)) (now (a .marks))) _ _ _ (c .before .before .before .before .before .before .before .before .before .before .before .completion-refusal .result)
+    (c .before .before .before .before .before .before .before .before .before .before .before .completion-refusal .ensures (now (a .marks)) ∙ completion-refusal-is (a .setup) r (a .request) (a .p .«by_broadcast»)) (c .before .before .before .before .before .before .before .before .before .before .if1 .taken)
+
+completion-cycles-requires : tie.Need-completion-cycles-requires
+completion-cycles-requires c κs = search needs
+
+play-completion-requires : tie.Need-play-completion-requires
+play-completion-requires c κs =
+    let a = c .before .before .before .before .before .before .before .before .before .before .before .before .before .args in
+    let k = c .before .before .before .before .before .before .before .before .before .before .before .before .before .pre .ready in (
+      k .fits,
+      (
+        completes-processor (a .setup) (lent (a .blocks) (a .held) (a .marks)) (a .request) (a .p .«by_broadcast»)
+            (sym (c .before .before .before .before .before .before .before .completion-refusal .ensures (now (a .marks))) ∙ c .before .before .before .before .before .before .if1 .left),
+        k .sized,
+      ),
+    )
+
+add-advance : tie.Need-add-advance
+add-advance c = search needs
+
+advance-requires : tie.Need-advance-requires
+advance-requires c κs =
+    let a = c .before .before .before .before .before .before .before .before .before .before .before .before .before .before .before .before .before .before .before .before .args in
+    let k = c .before .before .before .before .before .before .before .before .before .before .before .before .before .before .before .before .before .before .before .before .pre .ready in
+    let r = lent (a .blocks) (a .held) (a .marks) in (
+      subst (λ (z : Rival). Sized (a .setup) z) (sym (c .before .before .before .before .before .before .play-completion .ensures)) (sized-played (a .setup) r (k .sized) (a .request ∷ []) (completion (a .p .«by_broadcast»))),
+      record {
+        few = omega (arith, k .within, k .few);
+        cheap = k .cheap;
+        entry = omega (arith, c .before .before .before .before .before .before .before .before .before .before .completion-cycles .ensures (now (a .marks)), cheap-completion (a .setup) r (a .request) (a .p .«by_broadcast»));
+      },
+    )
+
+same-length-4 : tie.Need-same-length-4
+same-length-4 c = search needs
+
+same-length-5 : tie.Need-same-length-5
+same-length-5 c = search needs
+
+same-length-6 : tie.Need-same-length-6
+same-length-6 c = search needs
+
+returns-2 : tie.Need-returns-2
+unfolding completed
+returns-2 c =
+    let a = c .before .before .before .before .before .before .before .before .before .before .before .before .before .before .before .before .before .before .before .before .before .before .before .before .before .before .before .args in
+    let r = lent (a .blocks) (a .held) (a .marks) in
+    c .before .before .before .before .before .before .advance .ensures
+    ∙ turned-played (a .setup) (stage (a .p) (now (a .blocks)) (now (a .held)) (now (a .marks))) _ _ _ (c .before .before .before .before .before .before .before .before .before .before .before .before .before .before .before .before .before .before .before .before .before .completion-refusal .result)
+    (c .before .before .before .before .before .before .before .before .before .before .before .before .before .before .before .before .before .before .before .before .before .completion-refusal .ensures (now (a .marks)) ∙ completion-refusal-is (a .setup) r (a .request) (a .p .«by_broadcast»)) (c .before .before .before .before .before .before .before .before .before .before .before .before .before .before .before .before .before .before .before .before .if1 .left)
+    (c .before .before .before .before .before .before .before .before .before .before .before .before .before .before .before .before .before .completion-cycles .result)
+    (c .before .before .before .before .before .before .before .before .before .before .before .before .before .before .before .before .before .completion-cycles .ensures (now (a .marks)) ∙ completion-cost-is (a .setup) r (a .request) (a .p .«by_broadcast»))
+    _ (c .before .before .before .before .before .before .before .before .before .before .before .before .before .play-completion .ensures)
+
+pub complete-spec : {M : Type 1} → statement M
+complete-spec =
+    tie.close
+    (tie.spec
+    completion-refusal-requires
+    reject-requires
+    same-length
+    same-length-2
+    same-length-3
+    returns
+    completion-cycles-requires
+    play-completion-requires
+    add-advance
+    advance-requires
+    same-length-4
+    same-length-5
+    same-length-6
+    returns-2)

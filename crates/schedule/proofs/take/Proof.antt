@@ -1,0 +1,110 @@
+-- A completion with a request left waits; any other entry is refused or played.
+use borrow.Author.Needs.{needs}
+use mathlib.Core.Path.{sym, subst, _∙_}
+use mathlib.Core.List.{[]}
+use native.Mathlib.Omega.{arith}
+use denote.Ref.{now}
+use Rattle.protocol.specs.Rival.{Rival}
+use Rattle.copies.specs.Copies.{lent, Sized}
+use Rattle.schedule.specs.Stages.{stage}
+use Rattle.schedule.proofs.Laws.{turned-refused, turned-played, took-waits, took-turns, cheap}
+use Rattle.schedule.proofs.Lengths.{sized-played}
+use Rattle.schedule.proofs.take.Statement.{statement}
+use Rattle.schedule.proofs.take.Tie as tie
+
+awaits-requires : tie.Need-awaits-requires
+awaits-requires c κs = search needs
+
+broadcasts-requires : tie.Need-broadcasts-requires
+broadcasts-requires c κs = search needs
+
+waiting-requires : tie.Need-waiting-requires
+waiting-requires c κs = search needs
+
+returns : tie.Need-returns
+returns c =
+    let a = c .before .before .before .before .before .before .before .args in
+    rw (c .waiting .ensures, c .before .broadcasts .ensures)
+    (took-waits (a .setup) (stage (a .p) (now (a .blocks)) (now (a .held)) (now (a .marks))) (a .entry) (c .before .before .before .awaits .result) (c .before .before .before .awaits .ensures) (c .before .before .if1 .taken))
+
+refusal-requires : tie.Need-refusal-requires
+refusal-requires c κs = search needs
+
+reject-requires : tie.Need-reject-requires
+reject-requires c κs = search needs
+
+same-length : tie.Need-same-length
+same-length c = search needs
+
+same-length-2 : tie.Need-same-length-2
+same-length-2 c = search needs
+
+same-length-3 : tie.Need-same-length-3
+same-length-3 c = search needs
+
+returns-2 : tie.Need-returns-2
+returns-2 c =
+    let a = c .before .before .before .before .before .before .before .before .before .before .before .before .before .before .before .before .before .before .before .before .args in
+    let x = stage (a .p) (now (a .blocks)) (now (a .held)) (now (a .marks)) in
+    c .before .before .before .before .before .before .reject .ensures
+    ∙ turned-refused (a .setup) x [] (a .entry) (a .p .next) (c .before .before .before .before .before .before .before .before .before .before .before .refusal .result) (c .before .before .before .before .before .before .before .before .before .before .before .refusal .ensures) (c .before .before .before .before .before .before .before .before .before .before .if2 .taken)
+    ∙ took-turns (a .setup) x (a .entry) (c .before .before .before .before .before .before .before .before .before .before .before .before .before .before .before .before .awaits .result) (c .before .before .before .before .before .before .before .before .before .before .before .before .before .before .before .before .awaits .ensures) (c .before .before .before .before .before .before .before .before .before .before .before .before .before .before .before .if1 .left)
+
+play-requires : tie.Need-play-requires
+play-requires c κs = search needs
+
+cost-requires : tie.Need-cost-requires
+cost-requires c κs = search needs
+
+advance-requires : tie.Need-advance-requires
+advance-requires c κs =
+    let a = c .before .before .before .before .before .before .before .before .before .before .before .before .before .before .before .before .before .before .before .before .before .before .before .before .args in
+    let k = c .before .before .before .before .before .before .before .before .before .before .before .before .before .before .before .before .before .before .before .before .before .before .before .before .pre in
+    let r = lent (a .blocks) (a .held) (a .marks) in (
+      subst (λ (z : Rival). Sized (a .setup) z) (sym (c .before .before .before .before .before .before .before .before .before .before .play .ensures)) (sized-played (a .setup) r (k .sized) [] (a .entry)),
+      record {
+        few = omega (arith, k .within, k .few);
+        cheap = k .cheap;
+        entry = omega (arith, c .cost .ensures r, cheap (a .setup) (k .fits) r [] (a .entry));
+      },
+    )
+
+same-length-4 : tie.Need-same-length-4
+same-length-4 c = search needs
+
+same-length-5 : tie.Need-same-length-5
+same-length-5 c = search needs
+
+same-length-6 : tie.Need-same-length-6
+same-length-6 c = search needs
+
+returns-3 : tie.Need-returns-3
+returns-3 c =
+    let a = c .before .before .before .before .before .before .before .before .before .before .before .before .before .before .before .before .before .before .before .before .before .before .before .before .before .before .before .before .before .before .before .args in
+    let x = stage (a .p) (now (a .blocks)) (now (a .held)) (now (a .marks)) in
+    c .before .before .before .before .before .before .advance .ensures
+    ∙ turned-played (a .setup) x [] (a .entry) (a .p .next) (c .before .before .before .before .before .before .before .before .before .before .before .before .before .before .before .before .before .before .before .before .before .before .refusal .result) (c .before .before .before .before .before .before .before .before .before .before .before .before .before .before .before .before .before .before .before .before .before .before .refusal .ensures) (c .before .before .before .before .before .before .before .before .before .before .before .before .before .before .before .before .before .before .before .before .before .if2 .left)
+    (c .before .before .before .before .before .before .before .cost .result) (c .before .before .before .before .before .before .before .cost .ensures (x .copies)) _ (c .before .before .before .before .before .before .before .before .before .before .before .before .before .before .before .before .before .play .ensures)
+    ∙ took-turns (a .setup) x (a .entry) (c .before .before .before .before .before .before .before .before .before .before .before .before .before .before .before .before .before .before .before .before .before .before .before .before .before .before .before .awaits .result) (c .before .before .before .before .before .before .before .before .before .before .before .before .before .before .before .before .before .before .before .before .before .before .before .before .before .before .before .awaits .ensures) (c .before .before .before .before .before .before .before .before .before .before .before .before .before .before .before .before .before .before .before .before .before .before .before .before .before .before .if1 .left)
+
+pub take-spec : {M : Type 1} → statement M
+take-spec =
+    tie.close
+    (tie.spec
+    awaits-requires
+    broadcasts-requires
+    waiting-requires
+    returns
+    refusal-requires
+    reject-requires
+    same-length
+    same-length-2
+    same-length-3
+    returns-2
+    play-requires
+    cost-requires
+    advance-requires
+    same-length-4
+    same-length-5
+    same-length-6
+    returns-3)

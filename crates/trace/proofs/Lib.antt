@@ -1,0 +1,4 @@
+pub mod Laws
+pub mod Feeding
+pub mod Whole
+pub mod Run

@@ -1,0 +1,77 @@
+"""The walk of pricer::price: `python3 tools/walks/price_description.py` writes its proof.
+
+It writes crates/pricer/proofs/price/Proof.antt and crates/pricer/proofs/price/Proof/{Begin,Take,Complete}.antt.
+The repository is the one that this file stands in, or the folder named as the first argument."""
+import os
+import sys
+
+from parts import Kind, Stage
+from call import Callee
+from loop import Loop
+
+ROOT = sys.argv[1] if len(sys.argv) > 1 else os.path.dirname(os.path.dirname(os.path.dirname(os.path.abspath(__file__))))
+HERE, KIT = 'pricer', 'walks'
+
+Setup, Request = (Kind(n, 'protocol') for n in ('Setup', 'Request'))
+Entry, PriceAnswer = (Kind(n, 'protocol', True) for n in ('Entry', 'PriceAnswer'))
+Pricing = Kind('Pricing', 'schedule')
+usize = Kind('usize')
+
+BUFFERS = ['blocks', 'held', 'marks']
+slices = [(n, 'slice') for n in BUFFERS]
+buffers = ' '.join(BUFFERS)
+lent = '(lent %s)' % buffers
+stage = Stage('Stage', 'stage', 'progress', {n: '.copies .' + n for n in BUFFERS})
+
+RIVAL_SPEC = ('protocol', 'Rival', ['rival as lent'])
+here = '(stage p %s)' % buffers
+
+
+def stages(*names):
+    return ('schedule', 'Stages', ['Stage', 'stage'] + list(names))
+
+
+begin = Callee(HERE, KIT, 'schedule', 'begin', 'Begin', [('setup', Setup)] + slices + [('entries', usize), ('requests', usize)], Pricing, 'mut',
+               'begun setup %s entries requests' % lent, None, [RIVAL_SPEC, stages('begun')], stage)
+take = Callee(HERE, KIT, 'schedule', 'take', 'Take', [('setup', Setup)] + slices + [('p', Pricing), ('entry', Entry)], Pricing, 'mut',
+              'took setup %s entry' % here, 'Ready setup %s' % here, [stages('Ready', 'took')], stage)
+complete = Callee(HERE, KIT, 'schedule', 'complete', 'Complete', [('setup', Setup)] + slices + [('p', Pricing), ('request', Request)], Pricing, 'mut',
+                  'completed setup %s request' % here, 'Due setup %s' % here, [stages('Due', 'completed')], stage)
+
+inv = 'setup %s entries requests' % lent
+at_turn = '%s (x .at) (x .inv)' % inv
+whole = 'setup %s requests entries' % lent
+body = '(rest-of (rest-of (rest-of code-mir.turn-1)))'
+
+price = Loop(
+    root=ROOT, here=HERE, kit=KIT, name='price',
+    params=[('setup', Setup)] + slices + [('entries', ('list', Entry)), ('requests', ('list', Request))],
+    stage=stage, carried=Pricing, result=PriceAnswer, answer='answer', answer_at=8, size={'entries': 12, 'requests': 16}, flag='completing',
+    begin=begin, begin_args={'entries': '(length entries)', 'requests': '(length requests)'},
+    begin_is={'entries': '(refl, r-entries .0)', 'requests': '(refl, r-requests .0)'}, begin_ready=None,
+    first='(begun setup %s (length entries) (length requests))' % lent, inv_start='inv-start %s' % inv,
+    arms=[dict(name='with-request', body='(then-of %s)' % body, callee=complete, list='requests', index='(x .at .progress .next)', none='no-request',
+               args={'request': 'e'}, **{'is': {'request': 'e-is'}}, ready='(due %s go flag)' % at_turn, next='completed setup (x .at) e',
+               inv='inv-completed %s go flag' % at_turn, falls='falls-completed %s go flag' % at_turn, within='at-request %s go flag' % at_turn),
+          dict(name='with-entry', body='(else-of %s)' % body, callee=take, list='entries', index='(x .at .progress .at)', none='no-entry',
+               args={'entry': 'e'}, **{'is': {'entry': 'e-is'}}, ready='(x .inv .goes go .ready)', next='took setup (x .at) e',
+               inv='inv-took %s go flag' % at_turn, falls='falls-took %s go flag' % at_turn, within='at-entry %s go' % at_turn)],
+    charge=None, last=None,
+    done='(s .progress .answer ≡ priced %s) × (s .copies ≡ priceTables %s)' % (whole, whole), done_is='inv-end %s stopped' % at_turn,
+    inv_params=['setup'] + BUFFERS + ['entries', 'requests'], inv=inv,
+    laws=[(HERE, 'Loop', ['no-entry', 'no-request', 'Inv', 'μ', 'inv-start', 'inv-took', 'falls-took', 'inv-completed', 'falls-completed', 'at-entry', 'at-request', 'due', 'inv-end'])],
+    cites=[RIVAL_SPEC, ('protocol', 'Pricer', ['price as priced', 'priceTables']), stages('begun', 'took', 'completed')],
+    small=None)
+
+
+def write(path, text):
+    path = os.path.join(ROOT, 'crates', HERE, 'proofs', path)
+    os.makedirs(os.path.dirname(path), exist_ok=True)
+    with open(path, 'w', encoding='utf-8') as f:
+        f.write(text)
+
+
+if __name__ == '__main__':
+    for c in (begin, take, complete):
+        write('price/Proof/%s.antt' % c.mod, c.text())
+    write('price/Proof.antt', price.text())
