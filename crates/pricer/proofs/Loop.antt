@@ -15,16 +15,14 @@ use borrow.Author.Tests.{ltb-true, ltb-false, eqb-true, eq-eqb}
 use Rattle.protocol.specs.Refusals.{noRefusal, requestsLeft}
 use Rattle.protocol.specs.Board.{Fits}
 use Rattle.protocol.specs.Accounts.{nothing, plus, cycles}
-use Rattle.protocol.specs.Rival.{Rival, noCopies, played, rest, left, cost, refusal, endRefusal}
+use Rattle.protocol.specs.Rival.{Rival, noCopies, played, left, cost, refusal, endRefusal}
 use Rattle.protocol.specs.Pricer.{Verdict, accepted, refused, ending, judged, verdict, priceRefusal, answerTo, price, copiesAfter, priceTables}
 use Rattle.protocol.specs.declared.Setup.{Setup}
-use Rattle.protocol.specs.declared.Variable.{Variable}
 use Rattle.protocol.specs.declared.Operation.the-variants.{Read}
 use Rattle.protocol.specs.declared.Request.{Request}
 use Rattle.protocol.specs.declared.Bill.{Bill}
 use Rattle.protocol.specs.declared.Entry.{Entry}
 use Rattle.protocol.specs.declared.Entry.the-variants.{Fetch, WriteBack, Drop, Complete, CompleteByBroadcast}
-use Rattle.protocol.specs.declared.PriceAnswer.{PriceAnswer}
 use Rattle.protocol.specs.declared.PriceAnswer.the-variants.{Accepted, Refused}
 use Rattle.protocol.proofs.Laws.{choice, both-true}
 use Rattle.copies.specs.Copies.{Sized, completion}

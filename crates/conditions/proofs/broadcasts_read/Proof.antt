@@ -1,6 +1,6 @@
 -- Both tests.
 use borrow.Author.Needs.{needs}
-use mathlib.Core.Path.{sym, ap, _∙_}
+use mathlib.Core.Path.{ap}
 use mathlib.Core.Bool.{not}
 use borrow.Author.Tests.{not-true, not-false}
 use Rattle.conditions.proofs.broadcasts_read.Statement.{statement}

@@ -1,7 +1,6 @@
 -- An entry that is not refused names a processor, and each kind does its own.
 use borrow.Author.Needs.{needs}
 use denote.Ref.{now}
-use Rattle.protocol.specs.Rival.{moveRefusal}
 use Rattle.copies.proofs.Laws.{names-processor}
 use Rattle.copies.proofs.play.Statement.{statement}
 use Rattle.copies.proofs.play.Tie as tie
