@@ -14,7 +14,7 @@ HERE, KIT = 'pricer', 'walks'
 
 Setup, Request = (Kind(n, 'protocol') for n in ('Setup', 'Request'))
 Entry, PriceAnswer = (Kind(n, 'protocol', True) for n in ('Entry', 'PriceAnswer'))
-Pricing = Kind('Pricing', 'schedule')
+Pricing = Kind('Pricing', 'pricing')
 usize = Kind('usize')
 
 BUFFERS = ['blocks', 'held', 'marks']
@@ -28,7 +28,7 @@ here = '(stage p %s)' % buffers
 
 
 def stages(*names):
-    return ('schedule', 'Stages', ['Stage', 'stage'] + list(names))
+    return ('pricing', 'Stages', ['Stage', 'stage'] + list(names))
 
 
 begin = Callee(HERE, KIT, 'schedule', 'begin', 'Begin', [('setup', Setup)] + slices + [('entries', usize), ('requests', usize)], Pricing, 'mut',

@@ -10,13 +10,13 @@ use lib.ListN.{length, set, length-set}
 use lib.Dec.{ltb, eqb}
 use borrow.Author.Tests.{ltb-true, eqb-true, eq-eqb}
 use Rattle.protocol.specs.Lists.{at}
-use Rattle.protocol.specs.Refusals.{noRefusal, noSuchProcessor, noSuchVariable, noSuchBlock, readByBroadcast, lineInUse, blockNotHeld, dropOfMarked, completionNotHeld}
+use Rattle.protocol.specs.Refusals.{noRefusal, noSuchProcessor, noSuchVariable, readByBroadcast, lineInUse, blockNotHeld, dropOfMarked, completionNotHeld}
 use Rattle.protocol.specs.Board.{Fits, variables, slots, slot, offsetOf, fetchPrice}
 use Rattle.protocol.specs.Tables.{Tables, Sized, counter, block, holdsAt, holds, marked}
 use Rattle.protocol.specs.Soundness.{Sound}
 use Rattle.protocol.specs.Rules.{writtenBack, emptied, filled, saved, evicted, owner, released, fetched, obtained, payer, writtenAlone, broadcast, charged, written}
-use Rattle.protocol.specs.Requests.{served, target, isWrite, variableOf, newValue}
-use Rattle.protocol.specs.Rival.{Rival, keepsAt, keeps, shared, rivalFetched, rivalWrittenBack, rivalDropped, rivalCompleted, completionCycles, moveRefusal, completionRefusal, Legal, costs}
+use Rattle.protocol.specs.Requests.{served, target, isWrite, variableOf, newValue, Valid}
+use Rattle.protocol.specs.Rival.{Rival, keepsAt, keeps, shared, rivalFetched, rivalWrittenBack, rivalDropped, rivalCompleted, completionCycles, completionRefusal, Legal, costs}
 use Rattle.protocol.specs.declared.Setup.{Setup}
 use Rattle.protocol.specs.declared.Block.{Block}
 use Rattle.protocol.specs.declared.Request.{Request}
@@ -27,8 +27,10 @@ use Rattle.protocol.proofs.Laws.{Known, sure, not-so, known, choice, chosen-zer
 use Rattle.protocol.proofs.Board.{block-path, block-number, slot-lt, slot-inj, offset-lt}
 use Rattle.protocol.proofs.Holding.{holdsAt-false, holder-slot, payer-found}
 use Rattle.protocol.proofs.Lengths.{block-stored, counter-stored, sized-evicted, sized-released, sized-broadcast}
+use Rattle.protocol.proofs.Requests.{target-lt}
+use Rattle.protocol.proofs.Rival.{move-legal}
 use Rattle.competitive.proofs.Sums.{sum, sum-one}
-use Rattle.competitive.proofs.StepSound.{Valid, target-lt, sound-obtained, obtained-holds, sound-served}
+use Rattle.competitive.proofs.StepSound.{sound-obtained, obtained-holds, sound-served}
 use Rattle.competitive.proofs.Potential.{Potential}
 
 -- what a schedule pays for fetches and completions
@@ -331,18 +333,6 @@ module _ (s : Setup) (ok : Fits s) (F W U : ℕ) (ψ : ℕ → ℕ → ℕ → �
       go false e = omega (arith, first-part)
 
 -- ---- what a legal entry says
-
-pub record Move (s : Setup) (i : ℕ) (b : Block) (n : ℕ) : Type 0 where
-  pub processor : i < s .processors
-  pub block : b .0 < s .blocks
-  pub rest : n ≡ 0
-
-pub move-legal : (s : Setup) (i : ℕ) (b : Block) (n : ℕ) → moveRefusal s i b n ≡ 0 → Move s i b n
-unfolding moveRefusal
-move-legal s i b n e =
-    let e1 = chosen-zero (ltb i (s .processors)) (cond (ltb (b .0) (s .blocks)) n noSuchBlock) noSuchProcessor (omega arith) e in
-    let e2 = chosen-zero (ltb (b .0) (s .blocks)) n noSuchBlock (omega arith) (e1 .1) in
-    record { processor = ltb-true _ _ (e1 .0); block = ltb-true _ _ (e2 .0); rest = e2 .1 }
 
 pub record Completion (s : Setup) (r : Rival) (q : Request) : Type 0 where
   pub valid : Valid s q

@@ -5,14 +5,14 @@ use mathlib.Core.Bool.{Bool, true, false, cond}
 use mathlib.Core.List.{List, [], _∷_, _++_}
 use native.Mathlib.Omega.{arith}
 use lib.ListN.{length, length-append}
-use lib.Dec.{ltb, eqb}
-use borrow.Author.Tests.{ltb-true, eqb-true}
+use lib.Dec.{eqb}
+use borrow.Author.Tests.{eqb-true}
 use Rattle.protocol.specs.Lists.{tail}
-use Rattle.protocol.specs.Refusals.{noRefusal, wrongLength, noSuchProcessor, noSuchVariable, accountFull}
-use Rattle.protocol.specs.Board.{Fits, inRange, variables}
+use Rattle.protocol.specs.Refusals.{noRefusal, wrongLength}
+use Rattle.protocol.specs.Board.{Fits, inRange}
 use Rattle.protocol.specs.Tables.{Tables, fresh}
 use Rattle.protocol.specs.Soundness.{Sound}
-use Rattle.protocol.specs.Requests.{served, value, bill, variableOf, requestRefusal, requestLimit}
+use Rattle.protocol.specs.Requests.{served, value, bill, requestRefusal}
 use Rattle.protocol.specs.Accounts.{entered, possible}
 use Rattle.protocol.specs.Runs.{Outcome, ended, onward, walk, runRefusal, run, Run, State, outcomeOf, leftBy, runs, takenFrom, takenRun, takenAll, servedAll, spent}
 use Rattle.competitive.specs.Claims.{Claim}
@@ -20,18 +20,17 @@ use Rattle.protocol.specs.declared.Setup.{Setup}
 use Rattle.protocol.specs.declared.Request.{Request}
 use Rattle.protocol.specs.declared.Bill.{Bill}
 use Rattle.protocol.specs.declared.Account.{Account}
-use Rattle.protocol.proofs.Laws.{choice, chosen-zero}
+use Rattle.protocol.proofs.Laws.{choice}
 use Rattle.protocol.proofs.Board.{inRange-fits}
 use Rattle.protocol.proofs.Checked.{sound-passes, sized-passes}
-use Rattle.competitive.proofs.StepSound.{Valid, AllValid, sound-served}
+use Rattle.protocol.proofs.Accounts.{Possible, possible-is, is-possible, account-path}
+use Rattle.protocol.proofs.Requests.{request-passed}
+use Rattle.competitive.proofs.StepSound.{AllValid, sound-served}
 use Rattle.competitive.proofs.Fresh.{sound-fresh}
 use Rattle.competitive.proofs.Half.{half}
-use Rattle.competitive.proofs.Possible.{Possible, possible-is, is-possible, spent-small, entered-possible}
+use Rattle.competitive.proofs.Possible.{spent-small, entered-possible}
 
 -- ---- records by their fields
-
-account-path : {a c : Account} → a .requests ≡ c .requests → a .fetch ≡ c .fetch → a .«write_back» ≡ c .«write_back» → a .update ≡ c .update → a ≡ c
-account-path e f g h = λ i. record { requests = e i; fetch = f i; «write_back» = g i; update = h i }
 
 state-path : {w z : State} → w .tables ≡ z .tables → w .account ≡ z .account → w ≡ z
 state-path e f = λ i. record { tables = e i; account = f i }
@@ -59,19 +58,10 @@ sound-all s ok t sd (q ∷ qs) va = sound-all s ok (served s t q) (sound-served 
 
 -- ---- the requests that a walk takes
 
-pub refusal-valid : (s : Setup) (n : ℕ) (q : Request) → requestRefusal s n q ≡ 0 → Valid s q
-unfolding requestRefusal
-refusal-valid s n q e =
-    let full : ℕ = cond (ltb n requestLimit) noRefusal accountFull in
-    let known : ℕ = cond (ltb (variableOf q .0) (variables s)) full noSuchVariable in
-    let e1 = chosen-zero (ltb (q .processor) (s .processors)) known noSuchProcessor (omega arith) e in
-    let e2 = chosen-zero (ltb (variableOf q .0) (variables s)) full noSuchVariable (omega arith) (e1 .1) in
-    record { processor = ltb-true _ _ (e1 .0); variable = ltb-true _ _ (e2 .0) }
-
 taken-valid : (s : Setup) (n : ℕ) (qs : List Request) → AllValid s (takenFrom s n qs)
 taken-valid s n [] = tt
 taken-valid s n (q ∷ qs) =
-    choice (AllValid s) (eqb (requestRefusal s n q) 0) (λ e. (refusal-valid s n q (eqb-true _ _ e), taken-valid s (n + 1) qs)) (λ e. tt)
+    choice (AllValid s) (eqb (requestRefusal s n q) 0) (λ e. (request-passed s n q (eqb-true _ _ e) .0, taken-valid s (n + 1) qs)) (λ e. tt)
 
 pub run-valid : (s : Setup) (n : ℕ) (r : Run) → AllValid s (takenRun s n r)
 unfolding takenRun

@@ -5,7 +5,7 @@ use mathlib.Core.Logic.{_≢_}
 use mathlib.Core.Bool.{Bool, true, false, _&&_, cond, true≢false}
 use mathlib.Core.List.{List, [], _∷_, _++_, append-assoc, map}
 use native.Mathlib.Omega.{arith}
-use lib.ListN.{length, set, length-set, List·getD-map}
+use lib.ListN.{length, set, List·getD-map}
 use lib.Seq.{set-getD, map-set-same, ext-getD}
 use lib.Dec.{ltb, eqb}
 use borrow.Author.Tests.{ltb-true, lt-ltb, eqb-true, eqb-false}
@@ -14,7 +14,7 @@ use Rattle.protocol.specs.Board.{Fits, inRange, variables, slots, slot, offsetO
 use Rattle.protocol.specs.Tables.{Tables, tables, fresh, counter, block, mark, holdsAt, holds, marked}
 use Rattle.protocol.specs.Soundness.{Sound}
 use Rattle.protocol.specs.Rules.{writtenBack, emptied, filled, saved, saveCycles, evicted, owner, released, fetched, obtained, fetchCycles, writeBackCycles, payer, writtenAlone, broadcast, charged, written, updateCycles}
-use Rattle.protocol.specs.Requests.{isWrite, variableOf, newValue, target, readied, served, bill}
+use Rattle.protocol.specs.Requests.{isWrite, variableOf, newValue, target, readied, served, bill, Valid}
 use Rattle.protocol.specs.Accounts.{nothing, plus}
 use Rattle.protocol.specs.Runs.{Run, takenRun, takenAll, servedAll, spent}
 use Rattle.protocol.specs.Rival.{Rival, rival, noCopies, keepsAt, keeps, shared, unmarked, rivalFetched, rivalWrittenBack, rivalDropped, rivalCompleted, completionCycles, played, left, cost, refusal, moveRefusal, completionRefusal, Legal, costs, lastCopies}
@@ -28,8 +28,10 @@ use Rattle.protocol.specs.declared.Entry.the-variants.{Fetch, WriteBack, Drop, 
 use Rattle.protocol.proofs.Laws.{Same, same, apart, same?, Under, under, over, under?, Known, sure, not-so, known, choice, at-set-other, at-set-zero}
 use Rattle.protocol.proofs.Board.{block-path, block-number, inRange-fits, slot-lt, slot-inj, slot-proper, processor-lt, offset-lt}
 use Rattle.protocol.proofs.Holding.{holdsAt-true, true-holdsAt, holder-slot, payer-found, owner-found}
+use Rattle.protocol.proofs.Requests.{target-lt}
+use Rattle.protocol.proofs.Rival.{length-unmarked}
 use Rattle.competitive.proofs.Sound.{sound-writtenBack}
-use Rattle.competitive.proofs.StepSound.{marked-holds, placed, sound-evicted, sound-released, released-unmarked, sound-obtained, obtained-holds, shared-facts, Valid, AllValid, target-lt, sound-served}
+use Rattle.competitive.proofs.StepSound.{marked-holds, placed, sound-evicted, sound-released, released-unmarked, sound-obtained, obtained-holds, shared-facts, AllValid, sound-served}
 use Rattle.competitive.proofs.Fresh.{sound-fresh}
 use Rattle.competitive.proofs.Bound.{released-counters, released-blocks}
 use Rattle.competitive.proofs.Values.{evicted-zero}
@@ -187,11 +189,6 @@ module _ (s : Setup) (ok : Fits s) (t : Tables) (sd : Sound s t) (qs : List Requ
 -- ---- rule 2: the marks of block b clear
 
 module _ (s : Setup) (r : Rival) (b : Block) where
-  length-unmarked : (n : ℕ) → length (unmarked s r b n) ≡ length (r .marks)
-  length-unmarked zero = refl
-  length-unmarked (suc n) =
-      choice (λ z. length z ≡ length (r .marks)) (keeps s r n b) (λ e. length-set (unmarked s r b n) (slot s n b) 0 ∙ length-unmarked n) (λ e. length-unmarked n)
-
   -- in a slot that has b, and in one that has not
   unmarked-clear : Fits s → (n j : ℕ) → j < n → keeps s r j b ≡ true → at (unmarked s r b n) (slot s j b) ≡ 0
   unmarked-clear ok zero j l e = absurd (omega arith)

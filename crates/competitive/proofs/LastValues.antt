@@ -13,7 +13,7 @@ use Rattle.protocol.specs.Refusals.{noRefusal, wrongLength, unsoundTables, impo
 use Rattle.protocol.specs.Board.{Fits, inRange, variables}
 use Rattle.protocol.specs.Tables.{Tables, fresh}
 use Rattle.protocol.specs.Soundness.{Sound}
-use Rattle.protocol.specs.Requests.{served, value, bill, isWrite, variableOf, newValue, requestRefusal, requestLimit}
+use Rattle.protocol.specs.Requests.{served, value, bill, isWrite, variableOf, newValue, requestRefusal, requestLimit, Valid}
 use Rattle.protocol.specs.Accounts.{entered}
 use Rattle.protocol.specs.Runs.{Outcome, ended, onward, walk, runRefusal, run, Run, State, outcomes, outcomeOf, leftBy, takenRun, servedAll}
 use Rattle.competitive.specs.Claims.{expectedValue, expectedFrom, expectedRun, expectedAll, valuesOf, NeverUnsound, LastValues}
@@ -23,11 +23,12 @@ use Rattle.protocol.specs.declared.Account.{Account}
 use Rattle.protocol.proofs.Laws.{choice}
 use Rattle.protocol.proofs.Board.{inRange-fits}
 use Rattle.protocol.proofs.Checked.{sound-passes, sized-passes}
-use Rattle.competitive.proofs.StepSound.{Valid, AllValid}
+use Rattle.protocol.proofs.Accounts.{Possible, possible-is, is-possible}
+use Rattle.protocol.proofs.Requests.{request-passed}
+use Rattle.competitive.proofs.StepSound.{AllValid}
 use Rattle.competitive.proofs.Fresh.{sound-fresh}
 use Rattle.competitive.proofs.Values.{last-value}
-use Rattle.competitive.proofs.Possible.{Possible, possible-is, is-possible}
-use Rattle.competitive.proofs.Claim.{served-append, sound-all, refusal-valid, run-valid, stateAfter, run-state, run-possible}
+use Rattle.competitive.proofs.Claim.{served-append, sound-all, run-valid, stateAfter, run-state, run-possible}
 
 -- ---- a request's value
 
@@ -86,7 +87,7 @@ walk-values s ok a ps va (q ∷ qs) vs =
         → cond c (onward (value s t q) (walk s (served s t q) a′ qs (tail vs))) (ended (requestRefusal s (a .requests) q) t a vs) .values
         ≡ cond c (expectedValue ps q ∷ later) vs
     go true e h =
-        let v = refusal-valid s (a .requests) q (eqb-true _ _ e) in
+        let v = request-passed s (a .requests) q (eqb-true _ _ e) .0 in
         let w : walk s (served s t q) a′ qs (tail vs) .values ≡ later
         = ap (λ z. walk s z a′ qs (tail vs) .values) (sym (served-append s (fresh s) ps (q ∷ []))) ∙ h v in
         λ i. value-expected s ok ps q va v i ∷ w i

@@ -9,18 +9,19 @@ use lib.ListN.{set}
 use lib.Dec.{ltb}
 use borrow.Author.Tests.{ltb-true, ltb-false, eqb-true}
 use Rattle.protocol.specs.Lists.{at}
-use Rattle.protocol.specs.Board.{Fits, variables, slots, slot, lineOf, offsetOf, fetchPrice}
+use Rattle.protocol.specs.Board.{Fits, slots, slot, lineOf, offsetOf, fetchPrice}
 use Rattle.protocol.specs.Tables.{Tables, Sized, counter, block, mark, holdsAt, holds, marked}
 use Rattle.protocol.specs.Soundness.{Sound}
 use Rattle.protocol.specs.Rules.{writtenBack, filled, saved, evicted, owner, released, fetched, obtained, payer, broadcast, charged, written}
-use Rattle.protocol.specs.Requests.{served, readied, target, isWrite, variableOf, newValue}
+use Rattle.protocol.specs.Requests.{served, readied, target, isWrite, variableOf, newValue, Valid}
 use Rattle.protocol.specs.declared.Setup.{Setup}
 use Rattle.protocol.specs.declared.Block.{Block}
 use Rattle.protocol.specs.declared.Request.{Request}
 use Rattle.protocol.proofs.Laws.{Same, same, apart, same?, choice, at-set-other}
-use Rattle.protocol.proofs.Board.{block-path, block-number, slot-lt, slot-inj, offset-lt, block-lt, processor-lt, slot-proper}
+use Rattle.protocol.proofs.Board.{block-path, block-number, slot-lt, slot-inj, offset-lt, processor-lt, slot-proper}
 use Rattle.protocol.proofs.Holding.{true-holdsAt, holder-slot, slot-holder, payer-found, payer-none, owner-found, owner-none}
 use Rattle.protocol.proofs.Lengths.{block-stored, counter-stored, mark-stored, sized-evicted, sized-released}
+use Rattle.protocol.proofs.Requests.{target-lt}
 use Rattle.competitive.proofs.Sound.{sound-writtenBack, sound-emptied, sound-filled, sound-writtenAlone, sound-broadcast, sound-charged}
 
 module _ (s : Setup) (ok : Fits s) (t : Tables) (sd : Sound s t) where
@@ -160,20 +161,12 @@ module _ (s : Setup) (ok : Fits s) (t : Tables) (sd : Sound s t) (i : ℕ) (b : 
         sound-writtenAlone s ok t sd (slot s i b) o x (slot-lt s ok i b hi) (hs .0) ho
         (λ m u d l. rw (block-number (hs .1)) (alone-slots (ltb-false _ _ c) m u d l)))
 
--- ---- one request that 3 and 4 do not meet
+-- ---- requests that 3 and 4 let through
 
-pub record Valid (s : Setup) (q : Request) : Type 0 where
-  pub processor : q .processor < s .processors
-  pub variable : variableOf q .0 < variables s
-
--- each of a list of requests
+-- each of a list
 abbrev pub AllValid : Setup → List Request → Type 0
 AllValid s [] = Unit {0}
 AllValid s (q ∷ qs) = Valid s q × AllValid s qs
-
-pub target-lt : (s : Setup) (ok : Fits s) (q : Request) → Valid s q → target s q .0 < s .blocks
-unfolding target
-target-lt s ok q v = block-lt s ok (variableOf q) (v .variable)
 
 pub sound-served : (s : Setup) (ok : Fits s) (t : Tables) (sd : Sound s t) (q : Request) → Valid s q → Sound s (served s t q)
 unfolding served

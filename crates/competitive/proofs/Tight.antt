@@ -15,7 +15,7 @@ use Rattle.protocol.specs.Refusals.{noRefusal}
 use Rattle.protocol.specs.Board.{inRange, Fits, variables, slots, slot, wordIndex, blockOf, offsetOf, fetchPrice}
 use Rattle.protocol.specs.Tables.{Tables, tables, fresh, holdsAt, holds, marked, memoryWords}
 use Rattle.protocol.specs.Rules.{writtenBack, emptied, filled, saved, saveCycles, evicted, owner, released, fetched, obtained, fetchCycles, writeBackCycles, payer, updatedCopies, broadcast, charged, written, updateCycles}
-use Rattle.protocol.specs.Requests.{served, bill, target, isWrite, variableOf, newValue, requestRefusal, requestLimit}
+use Rattle.protocol.specs.Requests.{served, bill, target, isWrite, variableOf, newValue, requestRefusal, requestLimit, Valid}
 use Rattle.protocol.specs.Accounts.{cycles, entered, freshAccount}
 use Rattle.protocol.specs.Runs.{walk, run, runRefusal, takenFrom, takenRun, spent}
 use Rattle.protocol.specs.Rival.{Rival, rival, noCopies, keepsAt, keeps, shared, unmarked, rivalFetched, rivalDropped, rivalCompleted, completionCycles, moveRefusal, completionRefusal, Legal, costs}
@@ -32,10 +32,11 @@ use Rattle.protocol.proofs.Laws.{Same, same, apart, same?, Under, under, over, 
 use Rattle.protocol.proofs.Board.{inRange-fits, block-path, slot-lt, slot-inj}
 use Rattle.protocol.proofs.Holding.{holdsAt-true, true-holdsAt, payer-found, payer-none, owner-found}
 use Rattle.protocol.proofs.Checked.{sound-passes, sized-passes}
-use Rattle.competitive.proofs.StepSound.{Valid, AllValid}
+use Rattle.protocol.proofs.Accounts.{is-possible}
+use Rattle.competitive.proofs.StepSound.{AllValid}
 use Rattle.competitive.proofs.Fresh.{sound-fresh}
 use Rattle.competitive.proofs.Bound.{keepsAt-true, true-keepsAt}
-use Rattle.competitive.proofs.Possible.{is-possible, fresh-possible}
+use Rattle.competitive.proofs.Possible.{fresh-possible}
 use Rattle.competitive.proofs.Claim.{Left, run-left}
 
 -- ---- the lists

@@ -13,7 +13,7 @@ use Rattle.protocol.specs.Board.{Fits, variables, slots, slot, blockOf, offsetO
 use Rattle.protocol.specs.Tables.{Tables, fresh, counter, block, mark, word, memoryWord, holds, marked}
 use Rattle.protocol.specs.Soundness.{Sound}
 use Rattle.protocol.specs.Rules.{writtenBack, emptied, filled, saved, evicted, owner, released, fetched, obtained, payer, writtenAlone, broadcast, charged, written}
-use Rattle.protocol.specs.Requests.{served, readied, value, target, isWrite, variableOf, newValue}
+use Rattle.protocol.specs.Requests.{served, readied, value, target, isWrite, variableOf, newValue, Valid}
 use Rattle.protocol.specs.Runs.{servedAll}
 use Rattle.competitive.specs.Claims.{lastWritten}
 use Rattle.protocol.specs.declared.Setup.{Setup}
@@ -24,8 +24,9 @@ use Rattle.protocol.proofs.Laws.{Same, same, apart, same?, choice, at-set-same,
 use Rattle.protocol.proofs.Board.{block-path, block-number, variable-path, SameBlock, one, two, same-block?, same-variable, slot-lt, wordIndex-inj, wordIndex-lt, offset-lt}
 use Rattle.protocol.proofs.Holding.{holder-slot, owner-found}
 use Rattle.protocol.proofs.Lengths.{counter-stored, block-stored, mark-stored}
+use Rattle.protocol.proofs.Requests.{target-lt}
 use Rattle.competitive.proofs.Sound.{writtenBack-memory-same, writtenBack-memory-other, emptied-word-other, filled-word-same, filled-word-other, broadcast-word-out, broadcast-word-in, broadcast-memory-same, broadcast-memory-other}
-use Rattle.competitive.proofs.StepSound.{sound-saved, sound-evicted, sound-released, released-unmarked, sound-obtained, obtained-holds, alone-slots, shared-facts, Valid, AllValid, target-lt, sound-served}
+use Rattle.competitive.proofs.StepSound.{sound-saved, sound-evicted, sound-released, released-unmarked, sound-obtained, obtained-holds, alone-slots, shared-facts, AllValid, sound-served}
 use Rattle.competitive.proofs.Fresh.{sound-fresh}
 use Rattle.competitive.proofs.Bound.{released-counters}
 

@@ -8,7 +8,7 @@ use lib.ListN.{length}
 use lib.Dec.{eqb}
 use Rattle.protocol.specs.Lists.{tail}
 use Rattle.protocol.specs.Refusals.{noRefusal, unsoundTables, impossibleAccount}
-use Rattle.protocol.specs.Board.{inRange, fetchPrice}
+use Rattle.protocol.specs.Board.{fetchPrice}
 use Rattle.protocol.specs.Tables.{fresh}
 use Rattle.protocol.specs.Requests.{isWrite, variableOf, newValue, requestRefusal, requestLimit}
 use Rattle.protocol.specs.Accounts.{cycles, freshAccount, cyclesOf, possible}

@@ -1,10 +1,7 @@
 // What an entry costs, and when it is refused.
-use copies::is_write;
 use copies::keeps;
 use copies::keeps_at;
 use copies::shared;
-use copies::target;
-use copies::variable_of;
 use holders::slot;
 use protocol::Block;
 use protocol::Entry;
@@ -49,13 +46,13 @@ pub fn completion_cycles(
     requires { ⌜ (length (now blocks) ≡ slots setup) × (length (now held) ≡ slots setup) ⌝ }
     ensures { λ r. ⌜ ((m : List ℕ) → r ≡ completionCycles setup (rival (now (blocks .entry)) (now (held .entry)) m) request broadcast) ⌝ }
 {
-    if !is_write(request) {
+    if !request.is_write() {
         return 0;
     }
     if broadcast {
         return 1;
     }
-    let block = target(setup, request);
+    let block = setup.target(request);
     if !shared(setup, request.processor, block, blocks, held) {
         return 0;
     }
@@ -165,7 +162,7 @@ fn broadcasts_read(request: Request, broadcast: bool) -> bool
     if !broadcast {
         return false;
     }
-    !is_write(request)
+    !request.is_write()
 }
 
 // At a completion 3, 4, 9, 27.
@@ -183,14 +180,14 @@ pub fn completion_refusal(
     if request.processor >= setup.processors {
         return protocol::NO_SUCH_PROCESSOR;
     }
-    let variable = variable_of(request);
-    if variable.0 >= setup.blocks * setup.words {
+    let variable = request.variable();
+    if variable.0 >= setup.variable_count() {
         return protocol::NO_SUCH_VARIABLE;
     }
     if broadcasts_read(request, broadcast) {
         return protocol::READ_BY_BROADCAST;
     }
-    let block = target(setup, request);
+    let block = setup.target(request);
     if !keeps(setup, request.processor, block, blocks, held) {
         return protocol::COMPLETION_NOT_HELD;
     }

@@ -1,16 +1,12 @@
 -- The search for another copy, and the processor that an entry names.
 use Prim.Native.Nat.{ℕ, _<_}
 use mathlib.Core.Path.{_≡_, refl}
-use mathlib.Core.Bool.{cond}
-use native.Mathlib.Omega.{arith}
 use lib.Dec.{ltb}
-use borrow.Author.Tests.{ltb-true}
 use Rattle.protocol.specs.Lists.{first, other}
-use Rattle.protocol.specs.Refusals.{noSuchProcessor, noSuchBlock}
 use Rattle.protocol.specs.Rival.{Rival, shared, moveRefusal}
 use Rattle.protocol.specs.declared.Setup.{Setup}
 use Rattle.protocol.specs.declared.Block.{Block}
-use Rattle.protocol.proofs.Laws.{chosen-zero}
+use Rattle.protocol.proofs.Rival.{move-legal}
 use Rattle.copies.specs.Copies.{anotherKeeps}
 
 -- another one has a copy if the search for one ends below the number of processors
@@ -20,6 +16,4 @@ shared-is s r i b = refl
 
 -- an entry that is not refused names a processor
 pub names-processor : (s : Setup) (i : ℕ) (b : Block) (x : ℕ) → moveRefusal s i b x ≡ 0 → i < s .processors
-unfolding moveRefusal
-names-processor s i b x e =
-    ltb-true _ _ (chosen-zero (ltb i (s .processors)) (cond (ltb (b .0) (s .blocks)) x noSuchBlock) noSuchProcessor (λ z. absurd (omega arith)) e .0)
+names-processor s i b x e = move-legal s i b x e .processor

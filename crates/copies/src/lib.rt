@@ -2,10 +2,8 @@
 use holders::slot;
 use protocol::Block;
 use protocol::Entry;
-use protocol::Operation;
 use protocol::Request;
 use protocol::Setup;
-use protocol::Variable;
 ghost use mathlib.Core.Path.{_≡_};
 ghost use mathlib.Core.Bool.{cond};
 ghost use mathlib.Core.List.{List, [], _∷_};
@@ -13,41 +11,8 @@ ghost use Prim.Native.Nat.{ℕ, _<_};
 ghost use lib.ListN.{length, set};
 ghost use Rattle.protocol.specs.Refusals.{noRefusal};
 ghost use Rattle.protocol.specs.Board.{Fits, slot, slots};
-ghost use Rattle.protocol.specs.Requests.{isWrite, variableOf, target};
 ghost use Rattle.protocol.specs.Rival.{rival, keepsAt, keeps, shared, unmarked, rivalFetched, rivalWrittenBack, rivalDropped, played, refusal};
 ghost use Rattle.copies.specs.Copies.{lent, Sized, anotherKeeps, completion};
-
-// ---- what a request names
-
-// Whether a request is a write.
-pub fn is_write(request: Request) -> bool
-    ensures { λ r. ⌜ r ≡ isWrite request ⌝ }
-{
-    let operation = request.operation;
-    match operation {
-        Operation::Read(_) => false,
-        Operation::Write(_, _) => true,
-    }
-}
-
-// The variable of a request.
-pub fn variable_of(request: Request) -> Variable
-    ensures { λ r. ⌜ r ≡ variableOf request ⌝ }
-{
-    let operation = request.operation;
-    match operation {
-        Operation::Read(v) => v,
-        Operation::Write(v, _) => v,
-    }
-}
-
-// The block of a request's variable.
-pub fn target(setup: Setup, request: Request) -> Block
-    requires { ⌜ Fits setup ⌝ }
-    ensures { λ r. ⌜ r ≡ target setup request ⌝ }
-{
-    setup.block_of(variable_of(request))
-}
 
 // ---- who has a copy
 
@@ -228,10 +193,10 @@ pub fn play_completion(
     if broadcast {
         return;
     }
-    if !is_write(request) {
+    if !request.is_write() {
         return;
     }
-    let block = target(setup, request);
+    let block = setup.target(request);
     if shared(setup, request.processor, block, blocks, held) {
         return;
     }

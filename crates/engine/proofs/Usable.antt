@@ -1,31 +1,18 @@
 -- Serving a request keeps the tables usable.
 -- Assumes nothing.
-use Prim.Native.Nat.{ℕ, zero, suc, _<_}
-use mathlib.Core.Path.{_≡_, refl, sym, ap, _∙_}
-use mathlib.Core.Bool.{Bool, true, false, cond}
-use mathlib.Core.List.{List, [], _∷_}
-use lib.ListN.{set}
+use Prim.Native.Nat.{ℕ, _<_}
 use lib.Dec.{ltb, eqb}
-use Rattle.protocol.specs.Lists.{at}
 use Rattle.protocol.specs.Board.{Fits, slot, offsetOf}
 use Rattle.protocol.specs.Tables.{Tables, block, counter, marked, holds}
 use Rattle.protocol.specs.Rules.{writtenBack, emptied, filled, saved, evicted, owner, released, fetched, obtained, payer, writtenAlone, broadcast, charged, written}
-use Rattle.protocol.specs.Requests.{isWrite, variableOf, newValue, target, readied, served}
+use Rattle.protocol.specs.Requests.{isWrite, variableOf, newValue, target, Valid, readied, served}
 use Rattle.protocol.specs.declared.Setup.{Setup}
 use Rattle.protocol.specs.declared.Block.{Block}
 use Rattle.protocol.specs.declared.Request.{Request}
-use Rattle.protocol.proofs.Laws.{choice}
-use Rattle.protocol.proofs.Board.{block-lt}
+use Rattle.protocol.proofs.Laws.{choice, at-set}
 use Rattle.protocol.proofs.Lengths.{sized-served}
-use Rattle.engine.specs.Usable.{Valid, Usable}
-
--- what an element and a stored value have, the element has after the store
-pub at-set : (Q : ℕ → Type 0) (l : List ℕ) (k x j : ℕ) → Q x → Q (at l j) → Q (at (set l k x) j)
-at-set Q [] k x j p q = q
-at-set Q (y ∷ l) zero x zero p q = p
-at-set Q (y ∷ l) zero x (suc j) p q = q
-at-set Q (y ∷ l) (suc k) x zero p q = q
-at-set Q (y ∷ l) (suc k) x (suc j) p q = at-set Q l k x j p q
+use Rattle.protocol.proofs.Requests.{target-lt}
+use Rattle.engine.specs.Usable.{Usable}
 
 -- ---- the tables name no block outside main memory
 
@@ -69,9 +56,9 @@ module _ (s : Setup) (f : Fits s) where
       (λ e. named-charged (broadcast s t (slot s i b) b o x) (slot s (payer s t i b) b) h) (λ e. h)
 
   named-served : (t : Tables) (q : Request) → Valid s q → Named s t → Named s (served s t q)
-  unfolding served target
+  unfolding served
   named-served t q v h =
-      let h′ = named-obtained t (q .processor) (target s q) (block-lt s f (variableOf q) (v .variable)) h in
+      let h′ = named-obtained t (q .processor) (target s q) (target-lt s f q v) h in
       choice (Named s) (isWrite q)
       (λ e. named-written (readied s t q) (q .processor) (target s q) (offsetOf s (variableOf q)) (newValue q) h′) (λ e. h′)
 

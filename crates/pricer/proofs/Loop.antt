@@ -26,8 +26,8 @@ use Rattle.protocol.specs.declared.Entry.the-variants.{Fetch, WriteBack, Drop, 
 use Rattle.protocol.specs.declared.PriceAnswer.the-variants.{Accepted, Refused}
 use Rattle.protocol.proofs.Laws.{choice, both-true}
 use Rattle.copies.specs.Copies.{Sized, completion}
-use Rattle.schedule.specs.declared.Pricing.{Pricing}
-use Rattle.schedule.specs.Stages.{completes, broadcasts, awaits, Stage, pricingAt, waiting, stopped, rejected, reached, turned, lengthsRefusal, begun, took, completed, Ready, Due}
+use Rattle.pricing.specs.declared.Pricing.{Pricing}
+use Rattle.pricing.specs.Stages.{completes, broadcasts, awaits, Stage, pricingAt, waiting, stopped, rejected, reached, turned, lengthsRefusal, begun, took, completed, Ready, Due}
 use Rattle.schedule.proofs.Lengths.{sized-noCopies, sized-played}
 use Rattle.schedule.proofs.Laws.{priceRefusal-is, lengths-passed, cheap}
 

@@ -1,10 +1,10 @@
 -- Laws of the board: the setup's range as facts, and the arithmetic of blocks, slots and words.
-use Prim.Native.Nat.{ℕ, suc, _+_, _*_, _/_, _%_, _<_}
+use Prim.Native.Nat.{ℕ, suc, _+_, _*_, _/_, _%_, _≤_, _<_}
 use mathlib.Core.Path.{_≡_, sym, ap, _∙_}
 use mathlib.Core.Logic.{_≢_}
 use mathlib.Core.Bool.{true}
 use native.Mathlib.Omega.{arith}
-use native.Mathlib.Nat.{mod-lt, mul-le-mul-right, suc-mul, div-lt-iff-lt-mul, mul-add-mod-self-right, mod-eq-of-lt, mul-add-div-right, div-eq-of-lt, add-zero, div-add-mod'}
+use native.Mathlib.Nat.{mod-lt, mul-le-mul, mul-le-mul-right, suc-mul, div-lt-iff-lt-mul, mul-add-mod-self-right, mod-eq-of-lt, mul-add-div-right, div-eq-of-lt, add-zero, div-add-mod'}
 use lib.Dec.{leb}
 use borrow.Author.Tests.{leb-true}
 use Rattle.protocol.specs.Board.{inRange, Fits, variables, slots, slot, wordIndex, blockOf, offsetOf, lineOf, fetchPrice, writeBackPrice}
@@ -93,6 +93,17 @@ module _ (s : Setup) (ok : Fits s) where
   pub line-lt : (b : Block) → lineOf s b < s .lines
   unfolding lineOf
   line-lt b = mod-lt (b .0) (ok .some-line)
+
+  -- the numbers of slots, words of lines, and variables
+  pub few-slots : slots s ≤ 512
+  unfolding slots
+  few-slots = mul-le-mul (ok .few-processors) (ok .few-lines)
+
+  pub few-line-words : slots s * s .words ≤ 8192
+  few-line-words = mul-le-mul few-slots (ok .few-words)
+
+  pub few-variables : variables s ≤ 4096
+  few-variables = mul-le-mul (ok .few-blocks) (ok .few-words)
 
   pub slot-lt : (i : ℕ) (b : Block) → i < s .processors → slot s i b < slots s
   unfolding slot slots

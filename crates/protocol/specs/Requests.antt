@@ -1,5 +1,5 @@
 -- One request: the tables after it, its value, its bill and its refusals (document 01, "What one request does" and conditions 3, 4, 22).
-use Prim.Native.Nat.{ℕ}
+use Prim.Native.Nat.{ℕ, _<_}
 use mathlib.Core.Bool.{Bool, true, false, cond}
 use lib.Dec.{ltb}
 use Rattle.protocol.specs.Refusals.{noRefusal, noSuchProcessor, noSuchVariable, accountFull}
@@ -29,6 +29,11 @@ newValue q = elim (q .operation) [ Read v ↦ 0 | Write v x ↦ x ]
 -- the block of the variable
 unfoldable pub target : Setup → Request → Block
 target s q = blockOf s (variableOf q)
+
+-- a request that 3 and 4 let through
+pub record Valid (s : Setup) (q : Request) : Type 0 where
+  pub processor : q .processor < s .processors
+  pub variable : variableOf q .0 < variables s
 
 -- ---- what it does
 

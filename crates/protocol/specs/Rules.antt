@@ -1,6 +1,6 @@
 -- Rules 1 to 5 on the tables, and the cycles of each (document 01, "What one request does").
 use Prim.Native.Nat.{ℕ, zero, suc, _-_}
-use mathlib.Core.Bool.{Bool, _&&_, cond}
+use mathlib.Core.Bool.{_&&_, cond}
 use mathlib.Core.List.{List}
 use lib.ListN.{set}
 use lib.Seq.{sets}

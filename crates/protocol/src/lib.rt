@@ -1,7 +1,8 @@
 // The types of the board, the engine and the rival, and the refusal numbers. The rules are in specs/.
 ghost use mathlib.Core.Path.{_≡_};
-ghost use Prim.Native.Nat.{_<_, _≤_};
-ghost use Rattle.protocol.specs.Board.{within, inRange, Fits, fetchPrice, writeBackPrice, blockOf, offsetOf, lineOf, slot, slots};
+ghost use Prim.Native.Nat.{_*_};
+ghost use Rattle.protocol.specs.Board.{within, inRange, Fits, fetchPrice, writeBackPrice, variables, blockOf, offsetOf, lineOf, slots};
+ghost use Rattle.protocol.specs.Requests.{isWrite, variableOf, target, requestRefusal};
 
 // The refusal numbers.
 pub const NO_REFUSAL: u32 = 0;
@@ -120,6 +121,58 @@ impl Setup {
     {
         block.0 % self.lines
     }
+
+    // The block of a request's variable.
+    pub fn target(self, request: Request) -> Block
+        requires { ⌜ Fits self ⌝ }
+        ensures { λ r. ⌜ r ≡ target self request ⌝ }
+    {
+        self.block_of(request.variable())
+    }
+
+    // The slots: one for each line of each cache.
+    pub fn slot_count(self) -> usize
+        requires { ⌜ Fits self ⌝ }
+        ensures { λ r. ⌜ r ≡ slots self ⌝ }
+    {
+        (self.processors * self.lines) as usize
+    }
+
+    // The words of all lines.
+    pub fn word_count(self) -> usize
+        requires { ⌜ Fits self ⌝ }
+        ensures { λ r. ⌜ r ≡ slots self * self .words ⌝ }
+    {
+        self.slot_count() * self.words as usize
+    }
+
+    // The variables, which are the words of main memory.
+    pub fn variable_count(self) -> u32
+        requires { ⌜ Fits self ⌝ }
+        ensures { λ r. ⌜ r ≡ variables self ⌝ }
+    {
+        self.blocks * self.words
+    }
+
+    // The refusal number of a request where `taken` were taken before, or 0: 3, 4, 22 in this order.
+    pub fn request_refusal(self, taken: u32, request: Request) -> u32
+        requires { ⌜ Fits self ⌝ }
+        ensures { λ r. ⌜ r ≡ requestRefusal self taken request ⌝ }
+    {
+        let variable = request.variable();
+        let named = variable.0;
+        let limit = self.variable_count();
+        if request.processor >= self.processors {
+            return NO_SUCH_PROCESSOR;
+        }
+        if named >= limit {
+            return NO_SUCH_VARIABLE;
+        }
+        if taken >= 1000000 {
+            return ACCOUNT_FULL;
+        }
+        NO_REFUSAL
+    }
 }
 
 pub enum Operation {
@@ -131,6 +184,30 @@ pub enum Operation {
 pub struct Request {
     pub processor: u32,
     pub operation: Operation,
+}
+
+impl Request {
+    // Whether it is a write.
+    pub fn is_write(self) -> bool
+        ensures { λ r. ⌜ r ≡ isWrite self ⌝ }
+    {
+        let operation = self.operation;
+        match operation {
+            Operation::Read(_) => false,
+            Operation::Write(_, _) => true,
+        }
+    }
+
+    // The variable that it names.
+    pub fn variable(self) -> Variable
+        ensures { λ r. ⌜ r ≡ variableOf self ⌝ }
+    {
+        let operation = self.operation;
+        match operation {
+            Operation::Read(v) => v,
+            Operation::Write(v, _) => v,
+        }
+    }
 }
 
 // The cycles that an action is charged, by kind.

@@ -11,20 +11,20 @@ use native.Mathlib.Omega.{arith}
 use lib.ListN.{length, set, getD, take, drop, take-append-drop, length-set, drop-of-length-le}
 use lib.Seq.{length-take-le, drop-cons, take-suc-set, drop-set-lt}
 use lib.Dec.{ltb, eqb}
-use borrow.Author.Tests.{ltb-true, ltb-false, eqb-true}
+use borrow.Author.Tests.{ltb-false, eqb-true}
 use Rattle.protocol.specs.Lists.{tail}
 use Rattle.protocol.specs.Refusals.{noRefusal, setupOutOfRange, wrongLength, unsoundTables, impossibleAccount}
 use Rattle.protocol.specs.Board.{inRange}
 use Rattle.protocol.specs.Tables.{Tables, sized}
 use Rattle.protocol.specs.Soundness.{sound}
 use Rattle.protocol.specs.Requests.{served, value, bill}
-use Rattle.protocol.specs.Accounts.{nothing, plus, entered, possible}
+use Rattle.protocol.specs.Accounts.{nothing, entered, possible}
 use Rattle.protocol.specs.Runs.{Outcome, ended, onward, walk, runRefusal, run}
 use Rattle.protocol.specs.declared.Setup.{Setup}
-use Rattle.protocol.specs.declared.Variable.{Variable}
 use Rattle.protocol.specs.declared.Operation.the-variants.{Read}
 use Rattle.protocol.specs.declared.Request.{Request}
 use Rattle.protocol.specs.declared.Account.{Account}
+use Rattle.protocol.proofs.Accounts.{account-path}
 use Rattle.steps.specs.Steps.{Room as Fits-in, stops, begun, Stage, Ready, taken, refused, nextRefusal, turned}
 use Rattle.steps.proofs.Laws.{ready-begun, ready-turned, room-turned}
 use Rattle.run.specs.Outcomes.{grown, Room, growthOf, outcome}
@@ -95,9 +95,6 @@ settled s x l false z h f = ap (λ (r : _). outcome r (x .tables) (now-account x
 empty : (l : List Request) → length l ≤ 0 → l ≡ []
 empty [] h = refl
 empty (x ∷ xs) h = absurd (omega arith)
-
-account-path : {a c : Account} → a .requests ≡ c .requests → a .fetch ≡ c .fetch → a .«write_back» ≡ c .«write_back» → a .update ≡ c .update → a ≡ c
-account-path e f g h = λ i. record { requests = e i; fetch = f i; «write_back» = g i; update = h i }
 
 -- what it says that a run is not refused at its start: the lengths pass
 lengths-pass : (b₁ b₂ b₃ b₄ : Bool) → _≡_ {A = ℕ} (cond b₁ (cond b₂ (cond b₃ (cond b₄ noRefusal impossibleAccount) unsoundTables) wrongLength) setupOutOfRange) noRefusal → b₂ ≡ true

@@ -11,7 +11,7 @@ ghost use Prim.Native.Nat.{_<_, _^_};
 ghost use Rattle.run.specs.Outcomes.{grown, Room, growthOf, outcome};
 
 // What a run adds to the account so far.
-fn growth(p: Progress) -> Account
+pub fn growth(p: Progress) -> Account
     requires { ⌜ p .answer .taken < 2 ^ 32 ⌝ }
     ensures { λ r. ⌜ r ≡ growthOf p ⌝ }
 {
@@ -26,7 +26,7 @@ fn growth(p: Progress) -> Account
 }
 
 // The counting step.
-fn counted(account: Account, growth: Account) -> Account
+pub fn counted(account: Account, growth: Account) -> Account
     requires { ⌜ Room account growth ⌝ }
     ensures { λ r. ⌜ r ≡ grown account growth ⌝ }
 {

@@ -21,7 +21,7 @@ use Rattle.protocol.specs.declared.Entry.the-variants.{Fetch, WriteBack, Drop, 
 use Rattle.protocol.proofs.Laws.{both-true, three-true, chosen-zero, choice}
 use Rattle.protocol.proofs.Board.{inRange-fits}
 use Rattle.copies.specs.Copies.{Sized, completion}
-use Rattle.schedule.specs.Stages.{awaits, broadcasts, Stage, pricingAt, waiting, stopped, rejected, reached, turned, lengthsRefusal, begun, took}
+use Rattle.pricing.specs.Stages.{awaits, broadcasts, Stage, pricingAt, waiting, stopped, rejected, reached, turned, lengthsRefusal, begun, took}
 
 -- ---- 1, 2 and 5
 

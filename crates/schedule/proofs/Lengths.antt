@@ -1,18 +1,19 @@
 -- Each entry keeps the lengths of the rival's tables.
-use Prim.Native.Nat.{ℕ, zero, suc}
-use mathlib.Core.Path.{_≡_, refl, _∙_}
+use Prim.Native.Nat.{ℕ}
+use mathlib.Core.Path.{_≡_, _∙_}
 use mathlib.Core.Bool.{not, _&&_}
 use mathlib.Core.List.{List, [], _∷_}
 use lib.ListN.{length, set, length-set, length-replicate}
 use Rattle.protocol.specs.Board.{slots, slot}
 use Rattle.protocol.specs.Requests.{isWrite, target}
-use Rattle.protocol.specs.Rival.{Rival, noCopies, keeps, shared, unmarked, rivalFetched, rivalWrittenBack, rivalDropped, rivalCompleted, played}
+use Rattle.protocol.specs.Rival.{Rival, noCopies, shared, unmarked, rivalFetched, rivalWrittenBack, rivalDropped, rivalCompleted, played}
 use Rattle.protocol.specs.declared.Setup.{Setup}
 use Rattle.protocol.specs.declared.Block.{Block}
 use Rattle.protocol.specs.declared.Request.{Request}
 use Rattle.protocol.specs.declared.Entry.{Entry}
 use Rattle.protocol.specs.declared.Entry.the-variants.{Fetch, WriteBack, Drop, Complete, CompleteByBroadcast}
 use Rattle.protocol.proofs.Laws.{choice}
+use Rattle.protocol.proofs.Rival.{length-unmarked}
 use Rattle.copies.specs.Copies.{Sized}
 
 pub sized-noCopies : (s : Setup) → Sized s (noCopies s)
@@ -22,12 +23,6 @@ sized-noCopies s = record {
   held = length-replicate (slots s) 0;
   marks = length-replicate (slots s) 0;
 }
-
-length-unmarked : (s : Setup) (r : Rival) (b : Block) (n : ℕ) → length (unmarked s r b n) ≡ length (r .marks)
-length-unmarked s r b zero = refl
-length-unmarked s r b (suc n) =
-    choice (λ z. length z ≡ length (r .marks)) (keeps s r n b) (λ e. length-set (unmarked s r b n) (slot s n b) 0 ∙ length-unmarked s r b n)
-    (λ e. length-unmarked s r b n)
 
 module _ (s : Setup) (r : Rival) (z : Sized s r) where
   sized-fetched : (i : ℕ) (b : Block) → Sized s (rivalFetched s r i b)

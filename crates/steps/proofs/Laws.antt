@@ -1,7 +1,7 @@
 -- What a run's checks tell, and that a run which goes on is ready for its next request.
 -- Assumes nothing.
-use Prim.Native.Nat.{ℕ, _+_, _*_, _≤_, _<_, _^_}
-use mathlib.Core.Path.{_≡_, refl, sym, ap, _∙_}
+use Prim.Native.Nat.{ℕ, _+_, _*_, _≤_, _<_}
+use mathlib.Core.Path.{_≡_, refl, sym, _∙_}
 use mathlib.Core.Logic.{_≢_}
 use mathlib.Core.Bool.{Bool, true, false, _&&_, cond, true≢false}
 use mathlib.Core.List.{List}
@@ -9,25 +9,24 @@ use native.Mathlib.Nat.{mul-le-mul-right}
 use native.Mathlib.Decide.{decLt}
 use native.Mathlib.Omega.{arith}
 use lib.ListN.{length, set, length-set, List·getD-eq-default}
-use lib.Dec.{leb, ltb, eqb}
-use borrow.Author.Tests.{eqb-true, ltb-true, leb-true, eq-eqb, ne-eqb}
+use lib.Dec.{ltb, eqb}
+use borrow.Author.Tests.{eqb-true, ltb-true, eq-eqb, ne-eqb}
 use Rattle.protocol.specs.Refusals.{noRefusal}
-use Rattle.protocol.specs.Board.{Fits, inRange, fetchPrice, writeBackPrice, slots, slot, variables}
-use Rattle.protocol.specs.Tables.{Tables, sized, holds, marked, counter, block}
+use Rattle.protocol.specs.Board.{Fits, inRange, fetchPrice, writeBackPrice, slots}
+use Rattle.protocol.specs.Tables.{Tables, sized, counter, block}
 use Rattle.protocol.specs.Soundness.{Sound, sound}
-use Rattle.protocol.specs.Rules.{saveCycles, fetchCycles, writeBackCycles, payer, updateCycles}
-use Rattle.protocol.specs.Requests.{isWrite, variableOf, target, readied, served, value, bill, requestRefusal, requestLimit}
+use Rattle.protocol.specs.Requests.{served, value, bill}
 use Rattle.protocol.specs.Accounts.{nothing, plus, possible}
 use Rattle.protocol.specs.Runs.{runRefusal}
 use Rattle.protocol.specs.declared.Setup.{Setup}
-use Rattle.protocol.specs.declared.Block.{Block}
 use Rattle.protocol.specs.declared.Request.{Request}
-use Rattle.protocol.specs.declared.Bill.{Bill}
 use Rattle.protocol.specs.declared.Account.{Account}
-use Rattle.protocol.proofs.Laws.{Same, same, apart, same?, choice, both-true, three-true, chosen-zero}
+use Rattle.protocol.proofs.Laws.{Same, same, apart, same?, choice, both-true, chosen-zero}
 use Rattle.protocol.proofs.Board.{inRange-fits}
 use Rattle.protocol.proofs.Checked.{passed-sound}
-use Rattle.engine.specs.Usable.{Valid, Usable}
+use Rattle.protocol.proofs.Requests.{request-passed, bill-small}
+use Rattle.protocol.proofs.Accounts.{possible-is}
+use Rattle.engine.specs.Usable.{Usable}
 use Rattle.engine.proofs.Usable.{usable-served}
 use Rattle.steps.specs.declared.Progress.{Progress}
 use Rattle.steps.specs.Steps.{Room, Sums, begun, Stage, Spent, Ready, stopped, advanced, taken, nextRefusal, turned}
@@ -37,54 +36,23 @@ use Rattle.steps.specs.Steps.{Room, Sums, begun, Stage, Spent, Ready, st
 module _ (s : Setup) (f : Fits s) where
   -- 21, in numbers
   pub possible-spent : (a : Account) → possible s a ≡ true → Spent (a .requests) (record { fetch = a .fetch; «write_back» = a .«write_back»; update = a .update })
-  unfolding possible
   possible-spent a e =
       let n = a .requests in
-      let e₃ = three-true (leb (a .fetch) (fetchPrice s * n)) (leb (a .«write_back») (writeBackPrice s * n)) (leb (a .update) n) e in
+      let x = possible-is s a e in
       let p : fetchPrice s * n ≤ 16 * n = mul-le-mul-right n (f .few-fetch) in
-      let w : writeBackPrice s ≤ 16 = omega arith in
-      let r : writeBackPrice s * n ≤ 16 * n = mul-le-mul-right n w in
-      let x : a .fetch ≤ fetchPrice s * n = leb-true _ _ (e₃ .0) in
-      let y : a .«write_back» ≤ writeBackPrice s * n = leb-true _ _ (e₃ .1) in
-      record { fetch = omega arith; write-back = omega arith; update = leb-true _ _ (e₃ .2) }
-
-  fetch-le : (t : Tables) (i : ℕ) (b : Block) → fetchCycles s t i b ≤ 16
-  unfolding fetchCycles
-  fetch-le t i b = choice (λ z. z ≤ 16) (holds s t i b) (λ e. omega arith) (λ e. f .few-fetch)
-
-  save-le : (t : Tables) (k : ℕ) → saveCycles s t k ≤ 16
-  unfolding saveCycles
-  save-le t k = choice (λ z. z ≤ 16) (marked t k) (λ e. omega arith) (λ e. omega arith)
-
-  write-back-le : (t : Tables) (i : ℕ) (b : Block) → writeBackCycles s t i b ≤ 16
-  unfolding writeBackCycles
-  write-back-le t i b = choice (λ z. z ≤ 16) (holds s t i b) (λ e. omega arith) (λ e. save-le t (slot s i b))
-
-  update-le : (t : Tables) (i : ℕ) (b : Block) → updateCycles s t i b ≤ 1
-  unfolding updateCycles
-  update-le t i b = choice (λ z. z ≤ 1) (ltb (payer s t i b) (s .processors)) (λ e. omega arith) (λ e. omega arith)
+      let w : writeBackPrice s * n ≤ fetchPrice s * n = mul-le-mul-right n (f .write-back-le-fetch) in
+      record { fetch = omega (arith, x .fetch); write-back = omega (arith, x .back); update = x .update }
 
   -- one request's bill
   pub bill-spent : (t : Tables) (q : Request) → Spent 1 (bill s t q)
-  unfolding bill
-  bill-spent t q = record {
-    fetch = fetch-le t (q .processor) (target s q);
-    write-back = write-back-le t (q .processor) (target s q);
-    update = choice (λ z. z ≤ 1) (isWrite q) (λ e. update-le (readied s t q) (q .processor) (target s q)) (λ e. omega arith);
-  }
+  bill-spent t q =
+      let b = bill-small s t q in
+      record { fetch = omega (arith, b .0, f .few-fetch); write-back = omega (arith, b .1, f .few-fetch, f .write-back-le-fetch); update = b .2 }
 
 -- ---- what a refusal number 0 tells
 
 above : (n : ℕ) → 0 < n → n ≢ 0
 above n h e = omega arith
-
-pub request-passed : (s : Setup) (n : ℕ) (q : Request) → requestRefusal s n q ≡ 0 → Valid s q × (n < 1000000)
-unfolding requestRefusal
-request-passed s n q e =
-    let e₁ = chosen-zero (ltb (q .processor) (s .processors)) (cond (ltb (variableOf q .0) (variables s)) (cond (ltb n requestLimit) 0 22) 4) 3 (above 3 (omega arith)) e in
-    let e₂ = chosen-zero (ltb (variableOf q .0) (variables s)) (cond (ltb n requestLimit) 0 22) 4 (above 4 (omega arith)) (e₁ .1) in
-    let e₃ = chosen-zero (ltb n requestLimit) 0 22 (above 22 (omega arith)) (e₂ .1) in
-    (record { processor = ltb-true _ _ (e₁ .0); variable = ltb-true _ _ (e₂ .0) }, ltb-true _ _ (e₃ .0))
 
 pub record Passed (s : Setup) (t : Tables) (a : Account) (n : ℕ) (vs : List ℕ) : Type 0 where
   pub range : inRange s ≡ true

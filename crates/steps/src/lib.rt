@@ -11,7 +11,6 @@ ghost use lib.Dec.{ltb, eqb};
 ghost use Rattle.protocol.specs.Refusals.{noRefusal};
 ghost use Rattle.protocol.specs.Board.{Fits};
 ghost use Rattle.protocol.specs.Tables.{tables};
-ghost use Rattle.protocol.specs.Requests.{requestRefusal};
 ghost use Rattle.protocol.specs.Accounts.{plus, possible};
 ghost use Rattle.protocol.specs.Runs.{runRefusal};
 ghost use Rattle.steps.specs.Steps.{Sums, begun, stopped, advanced, stage, Ready, turned};
@@ -88,7 +87,7 @@ fn run_refusal<'a>(
     if values.len() != count {
         return protocol::WRONG_LENGTH;
     }
-    if !tables::is_sound(setup, blocks, counters, marks, words, memory) {
+    if !soundness::is_sound(setup, blocks, counters, marks, words, memory) {
         return protocol::UNSOUND_TABLES;
     }
     if !is_possible(setup, account) {
@@ -148,26 +147,6 @@ pub fn begin<'a>(
     }
 }
 
-// The refusal number of a request where `taken` were taken before, or 0.
-fn request_refusal(setup: Setup, taken: u32, request: Request) -> u32
-    requires { ⌜ Fits setup ⌝ }
-    ensures { λ r. ⌜ r ≡ requestRefusal setup taken request ⌝ }
-{
-    let variable = engine::variable_of(request);
-    let named = variable.0;
-    let limit = tables::variable_count(setup);
-    if request.processor >= setup.processors {
-        return protocol::NO_SUCH_PROCESSOR;
-    }
-    if named >= limit {
-        return protocol::NO_SUCH_VARIABLE;
-    }
-    if taken >= 1000000 {
-        return protocol::ACCOUNT_FULL;
-    }
-    protocol::NO_REFUSAL
-}
-
 // A run that stops at a request refused by `refusal`.
 fn stop(p: Progress, refusal: u32) -> Progress
     ensures { λ r. ⌜ r ≡ stopped refusal p ⌝ }
@@ -225,7 +204,7 @@ pub fn turn<'a>(
     let account = p.account;
     let taken = p.answer.taken;
     let count = values.len();
-    let refusal = request_refusal(setup, account.requests + taken as u32, request);
+    let refusal = setup.request_refusal(account.requests + taken as u32, request);
     if refusal != protocol::NO_REFUSAL {
         return stop(p, refusal);
     }

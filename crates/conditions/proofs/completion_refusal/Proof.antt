@@ -1,10 +1,7 @@
 -- The first condition met gives the number.
 use borrow.Author.Needs.{needs}
 use mathlib.Core.Path.{sym, _∙_}
-use native.Mathlib.Nat.{mul-le-mul}
-use native.Mathlib.Omega.{arith}
 use borrow.Author.Tests.{not-true, not-false, lt-ltb, le-ltb}
-use Rattle.protocol.specs.Board.{variables}
 use Rattle.protocol.specs.Rival.{completionRefusal}
 use Rattle.conditions.proofs.completion_refusal.Statement.{statement}
 use Rattle.conditions.proofs.completion_refusal.Tie as tie
@@ -13,17 +10,17 @@ returns : tie.Need-returns
 unfolding completionRefusal
 returns c m = rw (le-ltb (c .before .before .before .before .before .args .request .processor) (c .before .before .before .before .before .args .setup .processors) (c .if1 .taken))
 
-variable-of-requires : tie.Need-variable-of-requires
-variable-of-requires c κs = search needs
+variable-requires : tie.Need-variable-requires
+variable-requires c κs = search needs
 
-mul-if2 : tie.Need-mul-if2
-mul-if2 c = omega (arith, mul-le-mul (c .before .before .before .before .before .before .before .pre .0 .few-blocks) (c .before .before .before .before .before .before .before .pre .0 .few-words))
+variable-count-requires : tie.Need-variable-count-requires
+variable-count-requires c κs = search needs
 
 returns-2 : tie.Need-returns-2
 unfolding completionRefusal
 returns-2 c m =
     let a = c .before .before .before .before .before .before .before .before .before .args in
-    rw (lt-ltb (a .request .processor) (a .setup .processors) (c .before .before .before .before .if1 .left), ← (c .before .before .before .variable-of .ensures), le-ltb (c .before .before .before .variable-of .result .0) (variables (a .setup)) (c .if2 .taken))
+    rw (lt-ltb (a .request .processor) (a .setup .processors) (c .before .before .before .before .if1 .left), ← (c .before .before .before .variable .ensures), ← (c .before .before .variable-count .ensures), le-ltb (c .before .before .before .variable .result .0) (c .before .before .variable-count .result) (c .if2 .taken))
 
 broadcasts-read-requires : tie.Need-broadcasts-read-requires
 broadcasts-read-requires c κs = search needs
@@ -32,7 +29,7 @@ returns-3 : tie.Need-returns-3
 unfolding completionRefusal
 returns-3 c m =
     let a = c .before .before .before .before .before .before .before .before .before .before .before .args in
-    rw (lt-ltb (a .request .processor) (a .setup .processors) (c .before .before .before .before .before .before .if1 .left), ← (c .before .before .before .before .before .variable-of .ensures), lt-ltb (c .before .before .before .before .before .variable-of .result .0) (variables (a .setup)) (c .before .before .if2 .left), sym (c .before .broadcasts-read .ensures) ∙ c .if3 .taken)
+    rw (lt-ltb (a .request .processor) (a .setup .processors) (c .before .before .before .before .before .before .if1 .left), ← (c .before .before .before .before .before .variable .ensures), ← (c .before .before .before .before .variable-count .ensures), lt-ltb (c .before .before .before .before .before .variable .result .0) (c .before .before .before .before .variable-count .result) (c .before .before .if2 .left), sym (c .before .broadcasts-read .ensures) ∙ c .if3 .taken)
 
 target-requires : tie.Need-target-requires
 target-requires c κs = search needs
@@ -44,21 +41,21 @@ returns-4 : tie.Need-returns-4
 unfolding completionRefusal
 returns-4 c m =
     let a = c .before .before .before .before .before .before .before .before .before .before .before .before .before .before .args in
-    rw (lt-ltb (a .request .processor) (a .setup .processors) (c .before .before .before .before .before .before .before .before .before .if1 .left), ← (c .before .before .before .before .before .before .before .before .variable-of .ensures), lt-ltb (c .before .before .before .before .before .before .before .before .variable-of .result .0) (variables (a .setup)) (c .before .before .before .before .before .if2 .left), sym (c .before .before .before .before .broadcasts-read .ensures) ∙ c .before .before .before .if3 .left, ← (c .before .before .target .ensures), ← (c .before .keeps .ensures m), not-true (c .before .keeps .result) (c .if4 .taken))
+    rw (lt-ltb (a .request .processor) (a .setup .processors) (c .before .before .before .before .before .before .before .before .before .if1 .left), ← (c .before .before .before .before .before .before .before .before .variable .ensures), ← (c .before .before .before .before .before .before .before .variable-count .ensures), lt-ltb (c .before .before .before .before .before .before .before .before .variable .result .0) (c .before .before .before .before .before .before .before .variable-count .result) (c .before .before .before .before .before .if2 .left), sym (c .before .before .before .before .broadcasts-read .ensures) ∙ c .before .before .before .if3 .left, ← (c .before .before .target .ensures), ← (c .before .keeps .ensures m), not-true (c .before .keeps .result) (c .if4 .taken))
 
 returns-5 : tie.Need-returns-5
 unfolding completionRefusal
 returns-5 c m =
     let a = c .before .before .before .before .before .before .before .before .before .before .before .before .before .before .args in
-    rw (lt-ltb (a .request .processor) (a .setup .processors) (c .before .before .before .before .before .before .before .before .before .if1 .left), ← (c .before .before .before .before .before .before .before .before .variable-of .ensures), lt-ltb (c .before .before .before .before .before .before .before .before .variable-of .result .0) (variables (a .setup)) (c .before .before .before .before .before .if2 .left), sym (c .before .before .before .before .broadcasts-read .ensures) ∙ c .before .before .before .if3 .left, ← (c .before .before .target .ensures), ← (c .before .keeps .ensures m), not-false (c .before .keeps .result) (c .if4 .left))
+    rw (lt-ltb (a .request .processor) (a .setup .processors) (c .before .before .before .before .before .before .before .before .before .if1 .left), ← (c .before .before .before .before .before .before .before .before .variable .ensures), ← (c .before .before .before .before .before .before .before .variable-count .ensures), lt-ltb (c .before .before .before .before .before .before .before .before .variable .result .0) (c .before .before .before .before .before .before .before .variable-count .result) (c .before .before .before .before .before .if2 .left), sym (c .before .before .before .before .broadcasts-read .ensures) ∙ c .before .before .before .if3 .left, ← (c .before .before .target .ensures), ← (c .before .keeps .ensures m), not-false (c .before .keeps .result) (c .if4 .left))
 
 pub completion-refusal-spec : {M : Type 1} → statement M
 completion-refusal-spec =
     tie.close
     (tie.spec
     returns
-    variable-of-requires
-    mul-if2
+    variable-requires
+    variable-count-requires
     returns-2
     broadcasts-read-requires
     returns-3

@@ -11,8 +11,8 @@ use Rattle.engine.specs.Usable.{obtainBill}
 use Rattle.engine.proofs.serve.Statement.{statement}
 use Rattle.engine.proofs.serve.Tie as tie
 
-variable-of-requires : tie.Need-variable-of-requires
-variable-of-requires c κs = search needs
+variable-requires : tie.Need-variable-requires
+variable-requires c κs = search needs
 
 block-of-requires : tie.Need-block-of-requires
 block-of-requires c κs = search needs
@@ -24,11 +24,11 @@ obtain-requires : tie.Need-obtain-requires
 obtain-requires c κs =
     let start = c .before .before .before .before .before .before .before .before .before .before .before .before .before in
     let block-of′ = c .before .before .before .before .before .before .block-of in
-    let variable-of′ = c .before .before .before .before .before .before .before .variable-of in (
+    let variable′ = c .before .before .before .before .before .before .before .variable in (
       start .pre .0,
       (
         start .pre .1 .0 .processor,
-        (rw (block-of′ .ensures) (block-lt (start .args .setup) (start .pre .0) (variable-of′ .result) (rw (variable-of′ .ensures) (start .pre .1 .0 .variable))), start .pre .1 .1),
+        (rw (block-of′ .ensures) (block-lt (start .args .setup) (start .pre .0) (variable′ .result) (rw (variable′ .ensures) (start .pre .1 .0 .variable))), start .pre .1 .1),
       ),
     )
 
@@ -45,11 +45,11 @@ word-of-requires c κs =
     let start = c .before .before .before .before .before .before .before .before .before .before .before .before .before .before .before .before .before .before .before .before .before .before .before .before .before .before .before .before in
     let obtain′ = c .before .before .before .before .before .before .before .before .before .before .before .before .before .before .obtain in
     let offset-of′ = c .before .before .before .before .before .before .before .before .before .before .before .before .before .before .before .before .before .before .before .before .offset-of in
-    let variable-of′ = c .before .before .before .before .before .before .before .before .before .before .before .before .before .before .before .before .before .before .before .before .before .before .variable-of in
+    let variable′ = c .before .before .before .before .before .before .before .before .before .before .before .before .before .before .before .before .before .before .before .before .before .before .variable in
     let a = start .args in
     rw (obtain′ .kept .1 .1 .1 .1 .1 .1 .0 ∙ start .pre .1 .1 .lengths .words)
     (wordIndex-lt (a .setup) (start .pre .0) (c .before .slot .result) (slots (a .setup)) (offset-of′ .result) (c .before .slot .ensures .within)
-    (rw (offset-of′ .ensures) (offset-lt (a .setup) (start .pre .0) (variable-of′ .result))))
+    (rw (offset-of′ .ensures) (offset-lt (a .setup) (start .pre .0) (variable′ .result))))
 
 enum-known-operation : tie.Need-enum-known-operation
 enum-known-operation c = search needs
@@ -58,7 +58,7 @@ write-requires : tie.Need-write-requires
 write-requires c κs =
     let start = c .before .before .before .before .before .before .before .before .before .before .before .before .before .before .before .before .before .before .before .before .before .before .before .before .before .before .before .before .before .before .before .before in
     let block-of′ = c .before .before .before .before .before .before .before .before .before .before .before .before .before .before .before .before .before .before .before .before .before .before .before .before .before .block-of in
-    let variable-of′ = c .before .before .before .before .before .before .before .before .before .before .before .before .before .before .before .before .before .before .before .before .before .before .before .before .before .before .variable-of in
+    let variable′ = c .before .before .before .before .before .before .before .before .before .before .before .before .before .before .before .before .before .before .before .before .before .before .before .before .before .before .variable in
     let offset-of′ = c .before .before .before .before .before .before .before .before .before .before .before .before .before .before .before .before .before .before .before .before .before .before .before .before .offset-of in
     let obtain′ = c .before .before .before .before .before .before .before .before .before .before .before .before .before .before .before .before .before .before .obtain in
     let a = start .args in
@@ -67,9 +67,9 @@ write-requires c κs =
       (
         start .pre .1 .0 .processor,
         (
-          rw (block-of′ .ensures) (block-lt (a .setup) (start .pre .0) (variable-of′ .result) (rw (variable-of′ .ensures) (start .pre .1 .0 .variable))),
+          rw (block-of′ .ensures) (block-lt (a .setup) (start .pre .0) (variable′ .result) (rw (variable′ .ensures) (start .pre .1 .0 .variable))),
           (
-            rw (offset-of′ .ensures) (offset-lt (a .setup) (start .pre .0) (variable-of′ .result)),
+            rw (offset-of′ .ensures) (offset-lt (a .setup) (start .pre .0) (variable′ .result)),
             rw (obtain′ .ensures .1) (sized-obtained (a .setup) t (start .pre .1 .1 .lengths) (a .request .processor) (block-of′ .result)),
           ),
         ),
@@ -95,13 +95,13 @@ returns : tie.Need-returns
 unfolding value bill served isWrite target obtainBill
 returns c =
     let enum-told′ = c .before .before .before .enum-told in
-    let variable-of′ = c .before .before .before .before .before .before .before .before .before .before .before .before .before .before .before .before .before .before .before .before .before .before .before .variable-of in
+    let variable′ = c .before .before .before .before .before .before .before .before .before .before .before .before .before .before .before .before .before .before .before .before .before .before .before .variable in
     let block-of′ = c .before .before .before .before .before .before .before .before .before .before .before .before .before .before .before .before .before .before .before .before .before .before .block-of in
     let offset-of′ = c .before .before .before .before .before .before .before .before .before .before .before .before .before .before .before .before .before .before .before .before .before .offset-of in
     let obtain′ = c .before .before .before .before .before .before .before .before .before .before .before .before .before .before .before .obtain in
     let slot′ = c .before .before .slot in
     let e = enum-told′ .given .1 in
-    let v = variable-of′ .ensures in
+    let v = variable′ .ensures in
     let b = block-of′ .ensures in (
       rw (← v, ← b, ← (offset-of′ .ensures), ← (obtain′ .ensures .1), ← (slot′ .ensures .value), e) (c .word-of .ensures),
       rw (← v, ← b, e) (obtain′ .ensures .0),
@@ -127,13 +127,13 @@ returns-2 : tie.Need-returns-2
 unfolding value bill served isWrite newValue target obtainBill
 returns-2 c =
     let operation′ = c .before .before .before .before .before .before .before .before .before .before .before .before .before .before .before .before .before .operation in
-    let variable-of′ = c .before .before .before .before .before .before .before .before .before .before .before .before .before .before .before .before .before .before .before .before .before .before .before .before .before .before .before .before .before .before .before .before .before .before .before .before .before .variable-of in
+    let variable′ = c .before .before .before .before .before .before .before .before .before .before .before .before .before .before .before .before .before .before .before .before .before .before .before .before .before .before .before .before .before .before .before .before .before .before .before .before .before .variable in
     let block-of′ = c .before .before .before .before .before .before .before .before .before .before .before .before .before .before .before .before .before .before .before .before .before .before .before .before .before .before .before .before .before .before .before .before .before .before .before .before .block-of in
     let obtain′ = c .before .before .before .before .before .before .before .before .before .before .before .before .before .before .before .before .before .before .before .before .before .before .before .before .before .before .before .before .before .obtain in
     let write′ = c .before .before .before .before .before .before .before .before .before .before .write in
     let offset-of′ = c .before .before .before .before .before .before .before .before .before .before .before .before .before .before .before .before .before .before .before .before .before .before .before .before .before .before .before .before .before .before .before .before .before .before .before .offset-of in
     let e = operation′ .given .1 in
-    let v = variable-of′ .ensures in
+    let v = variable′ .ensures in
     let b = block-of′ .ensures in (
       rw e,
       rw (← v, ← b, obtain′ .ensures .0, ← (obtain′ .ensures .1), write′ .ensures .0, e),
@@ -144,7 +144,7 @@ pub serve-spec : {M : Type 1} → statement M
 serve-spec =
     tie.close
     (tie.spec
-    variable-of-requires
+    variable-requires
     block-of-requires
     offset-of-requires
     obtain-requires

@@ -1,6 +1,5 @@
 -- A block is marked where it is held and its slot is marked.
 use borrow.Author.Needs.{needs}
-use mathlib.Core.Path.{sym, _∙_}
 use borrow.Author.Tests.{not-true, not-false}
 use Rattle.protocol.specs.Tables.{holds, marked}
 use Rattle.holders.specs.Places.{owns}

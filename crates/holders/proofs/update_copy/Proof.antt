@@ -1,6 +1,5 @@
 -- A processor that does not hold the block keeps its words.
 use borrow.Author.Needs.{needs}
-use Prim.Native.Nat.{_<_}
 use native.Mathlib.Omega.{arith}
 use borrow.Author.Tests.{not-true, not-false}
 use Rattle.protocol.specs.Board.{slots}

@@ -1,13 +1,12 @@
 -- The loop's invariant: the words passed are 0 and the others as they were.
 -- Assumes nothing.
-use mathlib.Core.Path.{_≡_, refl, sym, ap, _∙_, subst}
+use mathlib.Core.Path.{_≡_, refl, _∙_}
 use mathlib.Core.List.{_++_, append-nil}
-use Prim.Native.Nat.{ℕ, _≤_, _-_}
-use native.Mathlib.Nat.{le-antisymm}
+use Prim.Native.Nat.{_≤_, _-_}
 use native.Mathlib.Omega.{arith}
 use borrow.Author.Needs.{needs}
 use borrow.Author.Fill.{fill-more}
-use lib.ListN.{length, replicate, drop, length-set, set}
+use lib.ListN.{length, replicate, drop, length-set}
 use denote.Ref.{now}
 use lib.Seq.{drop-length}
 use Rattle.parts.proofs.clear.Statement.{statement}

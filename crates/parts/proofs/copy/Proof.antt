@@ -1,11 +1,11 @@
 -- The loop's invariant: the words passed are those of `from` and the others as they were.
 -- Assumes nothing.
-use mathlib.Core.Path.{_≡_, refl, sym, ap, _∙_, subst}
+use mathlib.Core.Path.{_≡_, refl, _∙_}
 use mathlib.Core.List.{_++_}
-use Prim.Native.Nat.{ℕ, _≤_, _-_}
+use Prim.Native.Nat.{_≤_, _-_}
 use native.Mathlib.Omega.{arith}
 use borrow.Author.Needs.{needs}
-use lib.ListN.{length, take, drop, length-set, set}
+use lib.ListN.{length, take, drop, length-set}
 use denote.Ref.{now}
 use Rattle.parts.proofs.Laws.{front-more, front-all}
 use Rattle.parts.proofs.copy.Statement.{statement}

@@ -57,13 +57,13 @@ use Rattle.protocol.proofs.Entry.Laws as Entry-l
 use Rattle.protocol.specs.declared.Request.{Request}
 use Rattle.protocol.proofs.Request as Request-t
 use Rattle.protocol.proofs.Request.Laws as Request-l
-use Rattle.schedule.proofs.Pricing as Pricing-t
-use Rattle.schedule.proofs.Pricing.Laws as Pricing-l
+use Rattle.pricing.proofs.Pricing as Pricing-t
+use Rattle.pricing.proofs.Pricing.Laws as Pricing-l
 use Rattle.protocol.proofs.PriceAnswer as PriceAnswer-t
 use Rattle.protocol.proofs.PriceAnswer.Laws as PriceAnswer-l
 use Rattle.protocol.specs.Rival.{rival as lent}
 use Rattle.protocol.specs.Pricer.{price as priced, priceTables}
-use Rattle.schedule.specs.Stages.{Stage, stage, begun, took, completed}
+use Rattle.pricing.specs.Stages.{Stage, stage, begun, took, completed}
 use Rattle.pricer.proofs.Loop.{no-entry, no-request, Inv, μ, inv-start, inv-took, falls-took, inv-completed, falls-completed, at-entry, at-request, due, inv-end}
 use Rattle.walks.proofs.Frame.{dieAll, blocks as blocks-of, slots, alloc-all, leave-all, rest-of, then-of, else-of}
 use Rattle.walks.proofs.Opening.{at-list, slice-at, Cells, Opened, slice-opens, slice-closes}

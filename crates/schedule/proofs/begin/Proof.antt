@@ -3,7 +3,7 @@ use borrow.Author.Needs.{needs}
 use mathlib.Core.Path.{sym, subst, _∙_}
 use Rattle.protocol.specs.Rival.{Rival}
 use Rattle.copies.specs.Copies.{lent, Sized}
-use Rattle.schedule.specs.Stages.{reached}
+use Rattle.pricing.specs.Stages.{reached}
 use Rattle.schedule.proofs.Laws.{lengths-passed, begun-refused, begun-passed}
 use Rattle.schedule.proofs.Lengths.{sized-noCopies}
 use Rattle.schedule.proofs.begin.Statement.{statement}

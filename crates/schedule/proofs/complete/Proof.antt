@@ -6,7 +6,7 @@ use native.Mathlib.Omega.{arith}
 use denote.Ref.{now}
 use Rattle.protocol.specs.Rival.{Rival}
 use Rattle.copies.specs.Copies.{lent, Sized, completion}
-use Rattle.schedule.specs.Stages.{stage, completed}
+use Rattle.pricing.specs.Stages.{stage, completed}
 use Rattle.schedule.proofs.Laws.{turned-refused, turned-played, completion-refusal-is, completion-cost-is, cheap-completion, completes-processor}
 use Rattle.schedule.proofs.Lengths.{sized-played}
 use Rattle.schedule.proofs.complete.Statement.{statement}

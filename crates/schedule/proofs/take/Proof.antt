@@ -6,7 +6,7 @@ use native.Mathlib.Omega.{arith}
 use denote.Ref.{now}
 use Rattle.protocol.specs.Rival.{Rival}
 use Rattle.copies.specs.Copies.{lent, Sized}
-use Rattle.schedule.specs.Stages.{stage}
+use Rattle.pricing.specs.Stages.{stage}
 use Rattle.schedule.proofs.Laws.{turned-refused, turned-played, took-waits, took-turns, cheap}
 use Rattle.schedule.proofs.Lengths.{sized-played}
 use Rattle.schedule.proofs.take.Statement.{statement}

@@ -5,7 +5,8 @@ use Rattle.protocol.specs.Tables.{tables}
 use Rattle.protocol.specs.Runs.{runRefusal}
 use Rattle.protocol.proofs.Board.{inRange-fits}
 use Rattle.protocol.proofs.Checked.{passed-sized}
-use Rattle.tables.proofs.Tests.{failed, passed, sized-is}
+use Rattle.protocol.proofs.Laws.{failed, passed}
+use Rattle.tables.proofs.Tests.{sized-is}
 use borrow.Author.Needs.{needs}
 use Rattle.steps.proofs.run_refusal.Statement.{statement}
 use Rattle.steps.proofs.run_refusal.Tie as tie

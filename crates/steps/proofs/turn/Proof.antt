@@ -2,8 +2,9 @@ use Prim.Native.Nat.{_+_}
 use mathlib.Core.Path.{sym, ap, _∙_}
 use denote.Ref.{now}
 use lib.ListN.{length}
+use Rattle.protocol.proofs.Requests.{request-passed}
 use Rattle.steps.specs.Steps.{stage, advanced}
-use Rattle.steps.proofs.Laws.{request-passed, sums-taken, turned-refused, turned-taken}
+use Rattle.steps.proofs.Laws.{sums-taken, turned-refused, turned-taken}
 use borrow.Author.Needs.{needs}
 use Rattle.steps.proofs.turn.Statement.{statement}
 use Rattle.steps.proofs.turn.Tie as tie

@@ -5,7 +5,8 @@ use denote.Ref.{now}
 use lib.ListN.{length}
 use Rattle.protocol.specs.Board.{slot, slots, wordIndex}
 use Rattle.holders.proofs.Rows.{row-end}
-use Rattle.tables.proofs.Tests.{failed, passed, looked-is, shown}
+use Rattle.protocol.proofs.Laws.{failed, passed}
+use Rattle.tables.proofs.Tests.{looked-is, shown}
 use borrow.Author.Needs.{needs}
 use Rattle.tables.proofs.look.Statement.{statement}
 use Rattle.tables.proofs.look.Tie as tie

@@ -3,8 +3,8 @@ use mathlib.Core.List.{[]}
 use borrow.Author.Tests.{eq-eqb, ne-eqb, lt-ltb, le-ltb}
 use Rattle.protocol.proofs.Board.{inRange-fits}
 use Rattle.tables.specs.Entries.{seen}
-use Rattle.tables.proofs.Tests.{failed, passed}
 use borrow.Author.Needs.{needs}
+use Rattle.protocol.proofs.Laws.{failed, passed}
 use Rattle.tables.proofs.sees.Statement.{statement}
 use Rattle.tables.proofs.sees.Tie as tie
 

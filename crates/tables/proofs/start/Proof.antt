@@ -4,7 +4,8 @@ use Rattle.protocol.specs.Tables.{tables, fresh}
 use Rattle.protocol.specs.Runs.{startRefusal, started}
 use Rattle.protocol.proofs.Board.{inRange-fits}
 use Rattle.protocol.proofs.Checked.{passed-sized}
-use Rattle.tables.proofs.Tests.{failed, passed, sized-is}
+use Rattle.protocol.proofs.Laws.{failed, passed}
+use Rattle.tables.proofs.Tests.{sized-is}
 use borrow.Author.Needs.{needs}
 use Rattle.tables.proofs.start.Statement.{statement}
 use Rattle.tables.proofs.start.Tie as tie

@@ -30,11 +30,11 @@ use denote.Triple.Clauses.{ensured, lasts}
 use Rattle.protocol.specs.declared.Setup.{Setup}
 use Rattle.protocol.proofs.Setup as Setup-t
 use Rattle.protocol.proofs.Setup.Laws as Setup-l
-use Rattle.schedule.specs.declared.Pricing.{Pricing}
-use Rattle.schedule.proofs.Pricing as Pricing-t
-use Rattle.schedule.proofs.Pricing.Laws as Pricing-l
+use Rattle.pricing.specs.declared.Pricing.{Pricing}
+use Rattle.pricing.proofs.Pricing as Pricing-t
+use Rattle.pricing.proofs.Pricing.Laws as Pricing-l
 use Rattle.protocol.specs.Rival.{rival as lent}
-use Rattle.schedule.specs.Stages.{Stage, stage, begun}
+use Rattle.pricing.specs.Stages.{Stage, stage, begun}
 use Rattle.walks.proofs.Opening.{at-list, slice-at, Cells, Loan, slice-lends, slice-returns}
 use Rattle.schedule.proofs.begin as begin
 

@@ -30,13 +30,13 @@ use denote.Triple.Walked.{says}
 use Rattle.protocol.specs.declared.Setup.{Setup}
 use Rattle.protocol.proofs.Setup as Setup-t
 use Rattle.protocol.proofs.Setup.Laws as Setup-l
-use Rattle.schedule.specs.declared.Pricing.{Pricing}
-use Rattle.schedule.proofs.Pricing as Pricing-t
-use Rattle.schedule.proofs.Pricing.Laws as Pricing-l
+use Rattle.pricing.specs.declared.Pricing.{Pricing}
+use Rattle.pricing.proofs.Pricing as Pricing-t
+use Rattle.pricing.proofs.Pricing.Laws as Pricing-l
 use Rattle.protocol.specs.declared.Request.{Request}
 use Rattle.protocol.proofs.Request as Request-t
 use Rattle.protocol.proofs.Request.Laws as Request-l
-use Rattle.schedule.specs.Stages.{Stage, stage, Due, completed}
+use Rattle.pricing.specs.Stages.{Stage, stage, Due, completed}
 use Rattle.walks.proofs.Opening.{at-list, slice-at, Cells, Loan, slice-lends, slice-returns}
 use Rattle.schedule.proofs.complete as complete
 

@@ -31,13 +31,13 @@ use denote.Triple.Walked.{says}
 use Rattle.protocol.specs.declared.Setup.{Setup}
 use Rattle.protocol.proofs.Setup as Setup-t
 use Rattle.protocol.proofs.Setup.Laws as Setup-l
-use Rattle.schedule.specs.declared.Pricing.{Pricing}
-use Rattle.schedule.proofs.Pricing as Pricing-t
-use Rattle.schedule.proofs.Pricing.Laws as Pricing-l
+use Rattle.pricing.specs.declared.Pricing.{Pricing}
+use Rattle.pricing.proofs.Pricing as Pricing-t
+use Rattle.pricing.proofs.Pricing.Laws as Pricing-l
 use Rattle.protocol.specs.declared.Entry.{Entry}
 use Rattle.protocol.proofs.Entry as Entry-t
 use Rattle.protocol.proofs.Entry.Laws as Entry-l
-use Rattle.schedule.specs.Stages.{Stage, stage, Ready, took}
+use Rattle.pricing.specs.Stages.{Stage, stage, Ready, took}
 use Rattle.walks.proofs.Opening.{at-list, slice-at, Cells, Loan, slice-lends, slice-returns}
 use Rattle.schedule.proofs.take as take
 

@@ -1,0 +1,41 @@
+-- The next place, with the cycles added.
+use borrow.Author.Needs.{needs}
+use Rattle.pricing.proofs.advance.Statement.{statement}
+use Rattle.pricing.proofs.advance.Tie as tie
+
+add-pricing-at : tie.Need-add-pricing-at
+add-pricing-at c = search needs
+
+add-pricing-at-2 : tie.Need-add-pricing-at-2
+add-pricing-at-2 c = search needs
+
+pricing-at-requires : tie.Need-pricing-at-requires
+pricing-at-requires c κs = search needs
+
+reach-requires : tie.Need-reach-requires
+reach-requires c κs = search needs
+
+same-length : tie.Need-same-length
+same-length c = search needs
+
+same-length-2 : tie.Need-same-length-2
+same-length-2 c = search needs
+
+same-length-3 : tie.Need-same-length-3
+same-length-3 c = search needs
+
+returns : tie.Need-returns
+returns c = rw (← (c .before .before .before .before .before .before .before .before .before .before .pricing-at .ensures)) (c .before .before .before .before .before .before .reach .ensures)
+
+pub advance-spec : {M : Type 1} → statement M
+advance-spec =
+    tie.close
+    (tie.spec
+    add-pricing-at
+    add-pricing-at-2
+    pricing-at-requires
+    reach-requires
+    same-length
+    same-length-2
+    same-length-3
+    returns)

@@ -1,0 +1,113 @@
+use mathlib.Core.Path.{sym, _∙_}
+use native.Mathlib.Omega.{arith}
+use borrow.Author.Tests.{eq-eqb, ne-eqb}
+use denote.Ref.{now}
+use Rattle.protocol.specs.Lists.{at}
+use Rattle.protocol.specs.Board.{slots, wordIndex}
+use Rattle.protocol.specs.Rules.{payer}
+use Rattle.protocol.specs.Soundness.{copyLine}
+use Rattle.holders.proofs.Rows.{row-end}
+use borrow.Author.Needs.{needs}
+use Rattle.soundness.proofs.copy_sound.Statement.{statement}
+use Rattle.soundness.proofs.copy_sound.Tie as tie
+
+mul-block : tie.Need-mul-block
+mul-block c = search needs
+
+shared-slice-read-block : tie.Need-shared-slice-read-block
+shared-slice-read-block c = search needs
+
+mul-if1 : tie.Need-mul-if1
+mul-if1 c = search needs
+
+shared-slice-read-if1 : tie.Need-shared-slice-read-if1
+shared-slice-read-if1 c = search needs
+
+cast-p : tie.Need-cast-p
+cast-p c = search needs
+
+mul-same-part : tie.Need-mul-same-part
+unfolding wordIndex
+mul-same-part c =
+    let a = c .before .before .before .before .before .before .before .before .before .args in
+    omega (arith, row-end (a .setup) (a .k) (slots (a .setup)) (c .before .before .before .before .before .before .before .before .before .pre .1 .0))
+
+cast-same-part : tie.Need-cast-same-part
+cast-same-part c = search needs
+
+mul-same-part-2 : tie.Need-mul-same-part-2
+unfolding wordIndex
+mul-same-part-2 c =
+    let a = c .before .before .before .before .before .before .before .before .before .args in
+    omega (arith, row-end (a .setup) (at (now (a .blocks)) (a .k)) (a .setup .blocks) (c .before .before .before .before .before .before .before .before .before .pre .1 .1 .1))
+
+same-part-requires : tie.Need-same-part-requires
+unfolding wordIndex
+same-part-requires c κs =
+    let a = c .before .before .before .before .before .before .before .before .before .args in
+    (omega (arith, row-end (a .setup) (a .k) (slots (a .setup)) (c .before .before .before .before .before .before .before .before .before .pre .1 .0)), omega (arith, row-end (a .setup) (at (now (a .blocks)) (a .k)) (a .setup .blocks) (c .before .before .before .before .before .before .before .before .before .pre .1 .1 .1)))
+
+returns : tie.Need-returns
+unfolding copyLine wordIndex
+returns c = rw (eq-eqb _ _ (c .before .before .if1 .taken)) (c .same-part .ensures)
+
+mul-if2 : tie.Need-mul-if2
+mul-if2 c = search needs
+
+shared-slice-read-if2 : tie.Need-shared-slice-read-if2
+shared-slice-read-if2 c = search needs
+
+returns-2 : tie.Need-returns-2
+unfolding copyLine
+returns-2 c = rw (ne-eqb _ _ (c .before .before .if1 .left), ne-eqb _ _ (c .if2 .taken))
+
+mul-if3 : tie.Need-mul-if3
+mul-if3 c = search needs
+
+shared-slice-read-if3 : tie.Need-shared-slice-read-if3
+shared-slice-read-if3 c = search needs
+
+fetch-price-requires : tie.Need-fetch-price-requires
+fetch-price-requires c κs = search needs
+
+returns-3 : tie.Need-returns-3
+unfolding copyLine
+returns-3 c = rw (ne-eqb _ _ (c .before .before .before .before .before .if1 .left), eq-eqb _ _ (c .before .before .before .if2 .left), ne-eqb _ _ (λ e. c .if3 .taken (e ∙ sym (c .before .fetch-price .ensures))))
+
+payer-requires : tie.Need-payer-requires
+payer-requires c κs = search needs
+
+returns-4 : tie.Need-returns-4
+unfolding copyLine payer
+returns-4 c =
+    let a = c .before .before .before .before .before .before .before .before .before .before .before .before .before .before .before .args in
+    rw (
+      ne-eqb _ _ (c .before .before .before .before .before .before .before .if1 .left),
+      eq-eqb _ _ (c .before .before .before .before .before .if2 .left),
+      eq-eqb _ _ (c .before .before .if3 .left ∙ c .before .before .before .fetch-price .ensures),
+      c .before .payer .ensures (now (a .marks)) (now (a .words)) (now (a .memory)),
+    )
+
+pub copy-sound-spec : {M : Type 1} → statement M
+copy-sound-spec =
+    tie.close
+    (tie.spec
+    mul-block
+    shared-slice-read-block
+    mul-if1
+    shared-slice-read-if1
+    cast-p
+    mul-same-part
+    cast-same-part
+    mul-same-part-2
+    same-part-requires
+    returns
+    mul-if2
+    shared-slice-read-if2
+    returns-2
+    mul-if3
+    shared-slice-read-if3
+    fetch-price-requires
+    returns-3
+    payer-requires
+    returns-4)
