@@ -1,4 +1,4 @@
-// A trace longer than one read.
+// A trace that is cut over five reads.
 fn main() {
     report::run();
 }

@@ -1,1 +1,4 @@
+pub mod Leading
 pub mod Reading
+pub mod Parsing
+pub mod Splitting

@@ -35,12 +35,12 @@ bad-stays (b ∷ l) = bad-stays l
 -- ---- the digits
 
 -- of at most 8 digits none is lost
-shifted-fits : (n v h : ℕ) → n < 8 → v < 16 ^ n → h < 16 → (shifted v h ≡ v * 16 + h) × (v * 16 + h < 16 ^ (n + 1))
+pub shifted-fits : (n v h : ℕ) → n < 8 → v < 16 ^ n → h < 16 → (shifted v h ≡ v * 16 + h) × (v * 16 + h < 16 ^ (n + 1))
 shifted-fits n v h hn hv hh =
     let small : v < 268435456 = omega (arith, pow-le-pow-right {n = 16} (omega arith) {i = n} {j = 7} (omega arith)) in
     (ap (λ (x : ℕ). x * 16 + h) (mod-eq-of-lt small), rw add-one (omega (arith, pow-suc 16 n)))
 
-hex-lt : (b : ℕ) → isHex b ≡ true → hexValue b < 16
+pub hex-lt : (b : ℕ) → isHex b ≡ true → hexValue b < 16
 unfolding isHex
 hex-lt b h = ltb-true _ _ h
 

@@ -1,8 +1,8 @@
 -- A line read byte by byte. That this gives `parsed` of the line's bytes is proved in proofs/Reading.antt.
 use Prim.Native.Nat.{ℕ, _+_, _-_, _*_, _%_}
-use mathlib.Core.Bool.{cond}
+use mathlib.Core.Bool.{Bool, true, false, _&&_, cond}
 use mathlib.Core.List.{List, [], _∷_}
-use lib.Dec.{ltb}
+use lib.Dec.{ltb, eqb}
 use Rattle.din.specs.Lines.{isDigit, isBlank, isGap, hexValue, isHex}
 use Rattle.din.specs.declared.Scan.{Scan}
 use Rattle.din.specs.declared.Scan.the-variants.{Start, Label, Blanks, Digits, Rest, Bad}
@@ -13,6 +13,11 @@ use Rattle.din.specs.declared.Parsed.the-variants.{Malformed, Labelled}
 -- one hexadecimal digit more; of at most 8 digits none is lost
 abbrev pub shifted : ℕ → ℕ → ℕ
 shifted v h = v % 268435456 * 16 + h
+
+-- the digits of a list, behind those that made v
+abbrev pub shiftedAll : ℕ → List ℕ → ℕ
+shiftedAll v [] = v
+shiftedAll v (b ∷ bs) = shiftedAll (shifted v (hexValue b)) bs
 
 -- ---- one byte more, by what stands before it
 
@@ -35,6 +40,18 @@ scannedByte Bad b = Bad
 -- a line of no bytes
 abbrev pub newLine : Line
 newLine = record { width = 0; scan = Start }
+
+-- no byte has come
+unfoldable pub isStart : Scan → Bool
+isStart Start = true
+isStart (Label d) = false
+isStart (Blanks d) = false
+isStart (Digits d n v) = false
+isStart (Rest d v) = false
+isStart Bad = false
+
+unfoldable pub isNew : Line → Bool
+isNew x = eqb (x .width) 0 && isStart (x .scan)
 
 -- the line with one byte more; past 80 bytes only that it is too long is kept
 unfoldable pub withByte : Line → ℕ → Line

@@ -1,6 +1,6 @@
 -- The lines of a din trace, as document 01, "The trace program", has them.
 use Prim.Native.Nat.{ℕ, _+_, _-_, _*_}
-use mathlib.Core.Bool.{Bool, true, false, _&&_, cond}
+use mathlib.Core.Bool.{Bool, true, false, not, _&&_, cond}
 use mathlib.Core.List.{List, [], _∷_}
 use lib.ListN.{length}
 use lib.Dec.{leb, ltb, eqb}
@@ -18,6 +18,10 @@ ahead b (l ∷ ls) = (b ∷ l) ∷ ls
 abbrev pub linesOf : List ℕ → List (List ℕ)
 linesOf [] = []
 linesOf (b ∷ bs) = cond (eqb b 10) ([] ∷ linesOf bs) (ahead b (linesOf bs))
+
+-- a byte that is no newline
+unfoldable pub isText : ℕ → Bool
+isText b = not (eqb b 10)
 
 -- ---- the bytes of a line
 

@@ -1,8 +1,11 @@
-// The bytes of a line of a din trace. Only a few numbers are kept of a line, however long it is.
+// The bytes of a line of a din trace. Of a line that is not whole yet only a few numbers are kept, however long it is.
 ghost use mathlib.Core.Path.{_≡_};
-ghost use Prim.Native.Nat.{_<_};
-ghost use Rattle.din.specs.Lines.{isBlank, isGap, hexValue};
-ghost use Rattle.din.specs.Automaton.{shifted, afterBlanks, afterDigits, scannedByte, newLine, withByte, scanParsed};
+ghost use Prim.Native.Nat.{_+_, _<_, _≤_};
+ghost use mathlib.Core.Bool.{cond};
+ghost use lib.ListN.{length, drop};
+ghost use lib.Dec.{ltb};
+ghost use Rattle.din.specs.Lines.{isText, isDigit, isBlank, isGap, hexValue, isHex, leading, addressed, parsed};
+ghost use Rattle.din.specs.Automaton.{shifted, shiftedAll, afterBlanks, afterDigits, scannedByte, newLine, isStart, isNew, withByte, withBytes, scanParsed};
 
 // What a line is: malformed, or a label and an address.
 pub enum Parsed {
@@ -143,6 +146,19 @@ impl Scan {
         }
     }
 
+    fn is_start(self) -> bool
+        ensures { λ r. ⌜ r ≡ isStart self ⌝ }
+    {
+        match self {
+            Scan::Start => true,
+            Scan::Label(_) => false,
+            Scan::Blanks(_) => false,
+            Scan::Digits(_, _, _) => false,
+            Scan::Rest(_, _) => false,
+            Scan::Bad => false,
+        }
+    }
+
     pub fn parsed(self) -> Parsed
         ensures { λ r. ⌜ r ≡ scanParsed self ⌝ }
     {
@@ -155,6 +171,101 @@ impl Scan {
             Scan::Bad => Parsed::Malformed,
         }
     }
+}
+
+// A decimal digit.
+fn is_digit(b: u8) -> bool
+    ensures { λ r. ⌜ r ≡ isDigit b ⌝ }
+{
+    if b < b'0' {
+        return false;
+    }
+    b <= b'9'
+}
+
+// The first place from `from` on that has no blank or tab, or the line's end.
+fn blanks_end(line: &[u8], from: usize) -> usize
+    requires { ⌜ from ≤ length (now line) ⌝ }
+    ensures { λ r. ⌜ r ≡ from + length (leading isBlank (drop from (now (line .entry)))) ⌝ }
+{
+    let mut i = from;
+    while i < line.len() {
+        if !is_blank(line[i]) {
+            break;
+        }
+        i += 1;
+    }
+    i
+}
+
+// The hexadecimal digits from a place on: the place after them, and their number's low 32 bits.
+struct Address {
+    end: usize,
+    number: u32,
+}
+
+fn address_at(line: &[u8], from: usize) -> Address
+    requires { ⌜ from ≤ length (now line) ⌝ }
+    ensures { λ r. ⌜ (r .end ≡ from + length (leading isHex (drop from (now (line .entry))))) × (r .number ≡ shiftedAll 0 (leading isHex (drop from (now (line .entry))))) ⌝ }
+{
+    let mut i = from;
+    let mut number = 0;
+    while i < line.len() {
+        let digit = hex_value(line[i]);
+        if digit > 15 {
+            break;
+        }
+        number = shift(number, digit);
+        i += 1;
+    }
+    Address {
+        end: i,
+        number: number,
+    }
+}
+
+// The address from a place on, of a line with this label.
+fn parse_address(label: u32, line: &[u8], from: usize) -> Parsed
+    requires { ⌜ from ≤ length (now line) ⌝ }
+    ensures { λ r. ⌜ r ≡ addressed label (drop from (now (line .entry))) ⌝ }
+{
+    let address = address_at(line, from);
+    let end = address.end;
+    let count = end - from;
+    if count < 1 {
+        return Parsed::Malformed;
+    }
+    if count > 8 {
+        return Parsed::Malformed;
+    }
+    if end < line.len() {
+        if !is_gap(line[end]) {
+            return Parsed::Malformed;
+        }
+    }
+    Parsed::Labelled(label, address.number)
+}
+
+// What the bytes of a whole line are.
+pub fn parse(line: &[u8]) -> Parsed
+    ensures { λ r. ⌜ r ≡ parsed (now (line .entry)) ⌝ }
+{
+    let width = line.len();
+    if width > 80 {
+        return Parsed::Malformed;
+    }
+    if width < 1 {
+        return Parsed::Malformed;
+    }
+    let first = line[0];
+    if !is_digit(first) {
+        return Parsed::Malformed;
+    }
+    let from = blanks_end(line, 1);
+    if from == 1 {
+        return Parsed::Malformed;
+    }
+    parse_address((first - b'0') as u32, line, from)
 }
 
 impl Line {
@@ -186,6 +297,41 @@ impl Line {
         }
     }
 
+    // The line with more bytes, none of them a newline.
+    pub fn bytes(self, more: &[u8]) -> Line
+        ensures { λ r. ⌜ r ≡ withBytes self (now (more .entry)) ⌝ }
+    {
+        let mut line = self;
+        let mut i = 0;
+        while i < more.len() {
+            line = line.byte(more[i]);
+            i += 1;
+        }
+        line
+    }
+
+    // Whether the line has no bytes yet.
+    fn is_new(self) -> bool
+        ensures { λ r. ⌜ r ≡ isNew self ⌝ }
+    {
+        let scan = self.scan;
+        if self.width != 0 {
+            return false;
+        }
+        scan.is_start()
+    }
+
+    // What the line is, if it ends with these bytes. A line that lies whole in one chunk is parsed where it is.
+    pub fn ended(self, last: &[u8]) -> Parsed
+        ensures { λ r. ⌜ r ≡ scanParsed (withBytes self (now (last .entry)) .scan) ⌝ }
+    {
+        if self.is_new() {
+            return parse(last);
+        }
+        let line = self.bytes(last);
+        line.parsed()
+    }
+
     // What the line is, if it ends here.
     pub fn parsed(self) -> Parsed
         ensures { λ r. ⌜ r ≡ scanParsed (self .scan) ⌝ }
@@ -193,4 +339,32 @@ impl Line {
         let scan = self.scan;
         scan.parsed()
     }
+}
+
+// ---- the lines of a trace
+
+// The place of the first newline from `from` on, or the bytes' end.
+pub fn line_end(bytes: &[u8], from: usize) -> usize
+    requires { ⌜ from ≤ length (now bytes) ⌝ }
+    ensures { λ r. ⌜ r ≡ from + length (leading isText (drop from (now (bytes .entry)))) ⌝ }
+{
+    let mut i = from;
+    while i < bytes.len() {
+        if bytes[i] == b'\n' {
+            break;
+        }
+        i += 1;
+    }
+    i
+}
+
+// The start of the line after one that ends at a newline, or the bytes' end.
+pub fn next_line(bytes: &[u8], end: usize) -> usize
+    requires { ⌜ end ≤ length (now bytes) ⌝ }
+    ensures { λ r. ⌜ r ≡ cond (ltb end (length (now (bytes .entry)))) (end + 1) end ⌝ }
+{
+    if end < bytes.len() {
+        return end + 1;
+    }
+    end
 }

@@ -1,14 +1,14 @@
 // Reads a din trace on standard input and prints what it came to.
 ghost use mathlib.Core.Path.{_≡_};
 ghost use Rattle.protocol.specs.Tables.{tables, fresh};
-ghost use Rattle.trace.specs.Trace.{traceSetup};
-ghost use Rattle.trace.specs.Counting.{stage};
-ghost use Rattle.report.specs.Reading.{Reached, Reported};
+ghost use Rattle.trace_lines.specs.Trace.{traceSetup};
+ghost use Rattle.trace.specs.Counting.{stage, Ready};
+ghost use Rattle.report.specs.Reading.{Took, Reached, Reported};
 use libc::STDERR_FILENO;
 use libc::STDIN_FILENO;
 use libc::STDOUT_FILENO;
 use trace::Count;
-use trace::Report;
+use trace_lines::Report;
 
 // A trace after a read: whether to read on, whether a read failed, and what was counted.
 struct Progress {
@@ -27,8 +27,9 @@ fn read_some(
     words: &mut [u32],
     memory: &mut [u32],
 ) -> Progress
-    requires { ⌜ Reached (stage count (now blocks) (now counters) (now marks) (now words) (now memory)) ⌝ }
-    ensures { λ r. ⌜ Reached (stage (r .count) (now (blocks .exit)) (now (counters .exit)) (now (marks .exit)) (now (words .exit)) (now (memory .exit))) ⌝ }
+    requires { ⌜ Ready (stage count (now blocks) (now counters) (now marks) (now words) (now memory)) ⌝ }
+    ensures { λ r. ⌜ Took (stage count (now (blocks .entry)) (now (counters .entry)) (now (marks .entry)) (now (words .entry)) (now (memory .entry))) (now (buffer .exit))
+        (stage (r .count) (now (blocks .exit)) (now (counters .exit)) (now (marks .exit)) (now (words .exit)) (now (memory .exit))) ⌝ }
 {
     let got = libc::read(STDIN_FILENO, buffer);
     if got <= 0 {
@@ -76,31 +77,10 @@ fn read_all(
     at
 }
 
-// One line: a name and a number.
-fn print_line(name: &[u8], value: u64) {
-    io::write_all(STDOUT_FILENO, name);
-    io::print_decimal(STDOUT_FILENO, value);
-    io::write_all(STDOUT_FILENO, b"\n");
-}
-
-// The six lines.
-fn print_report(report: Report) {
-    let account = report.account;
-    let total = account.fetch as u64 + account.write_back as u64 + account.update as u64;
-    print_line(b"requests ", account.requests as u64);
-    print_line(b"fetch ", account.fetch as u64);
-    print_line(b"write-back ", account.write_back as u64);
-    print_line(b"update ", account.update as u64);
-    print_line(b"total ", total);
-    io::write_all(STDOUT_FILENO, b"ended ");
-    io::print_decimal(STDOUT_FILENO, report.refusal as u64);
-    print_line(b" ", report.line as u64);
-}
-
 // Whether a read failed, and the report of what was read.
-struct Answer {
-    failed: bool,
-    report: Report,
+pub struct Answer {
+    pub failed: bool,
+    pub report: Report,
 }
 
 // The report of the trace on standard input.
@@ -124,8 +104,24 @@ fn read_report(
     }
 }
 
-// The program `buscount`. After a read error no totals are printed.
-pub fn run() {
+// Writes what an answer has to say: the report, or a sentence on standard error. After a read error no totals are written, since they would be those of a part of the trace.
+fn tell(answer: Answer) {
+    if answer.failed {
+        io::write_all(
+            STDERR_FILENO,
+            b"buscount: standard input could not be read.\n",
+        );
+        return;
+    }
+    let mut text = [0u8; 192];
+    let length = report_text::render(answer.report, &mut text);
+    io::write_all(STDOUT_FILENO, &text[..length]);
+}
+
+// The program `buscount`: what it told.
+pub fn run() -> Answer
+    ensures { λ r. ⌜ Reported (r .report) ⌝ }
+{
     let mut blocks = [0u32; 32];
     let mut counters = [0u32; 32];
     let mut marks = [0u32; 32];
@@ -138,13 +134,6 @@ pub fn run() {
         &mut words,
         &mut memory,
     );
-    if answer.failed {
-        io::write_all(
-            STDERR_FILENO,
-            b"buscount: standard input could not be read.\n",
-        );
-        return;
-    }
-    let report = answer.report;
-    print_report(report);
+    tell(answer);
+    answer
 }

@@ -1,44 +1,36 @@
 -- Small facts of a trace's lines: the setup, a line's request, and what a count needs to go on.
-use Prim.Native.Nat.{ℕ, _+_, _<_, _≤_}
-use mathlib.Core.Path.{_≡_, refl, sym, ap, _∙_}
-use mathlib.Core.Bool.{Bool, true, false, cond}
+use Prim.Native.Nat.{ℕ, _<_}
+use mathlib.Core.Path.{_≡_, refl, ap, _∙_}
+use mathlib.Core.Bool.{Bool, true, false}
 use mathlib.Core.List.{List}
 use native.Mathlib.Omega.{arith}
-use lib.Dec.{leb, ltb, eqb}
-use borrow.Author.Tests.{ltb-true, eqb-true, eq-eqb, ne-eqb}
-use Rattle.protocol.specs.Refusals.{noRefusal, noSuchProcessor, noSuchVariable, accountFull, unknownLabel}
-use Rattle.protocol.specs.Board.{Fits, inRange, slots, slot, fetchPrice, writeBackPrice, variables}
-use Rattle.protocol.specs.Tables.{Tables, holds, marked, sized, fresh}
-use Rattle.protocol.specs.Rules.{saveCycles, fetchCycles, writeBackCycles, payer, updateCycles}
-use Rattle.protocol.specs.Requests.{isWrite, variableOf, target, readied, served, bill, requestRefusal}
+use lib.Dec.{leb, eqb}
+use borrow.Author.Tests.{eqb-true, eq-eqb, ne-eqb}
+use Rattle.protocol.specs.Refusals.{noRefusal, unknownLabel}
+use Rattle.protocol.specs.Board.{inRange, slots, fetchPrice, writeBackPrice}
+use Rattle.protocol.specs.Tables.{Tables, sized, fresh}
+use Rattle.protocol.specs.Requests.{Valid, served, bill, requestLimit, requestRefusal}
 use Rattle.protocol.specs.Accounts.{entered, freshAccount}
 use Rattle.protocol.specs.Runs.{State, startRefusal, started}
 use Rattle.protocol.specs.declared.Request.{Request}
-use Rattle.protocol.specs.declared.Variable.{Variable}
-use Rattle.protocol.specs.declared.Operation.{Operation}
-use Rattle.protocol.specs.declared.Operation.the-variants.{Read, Write}
-use Rattle.protocol.specs.declared.Block.{Block}
 use Rattle.protocol.specs.declared.Bill.{Bill}
 use Rattle.protocol.specs.declared.Account.{Account}
 use Rattle.protocol.proofs.Laws.{choice, chosen-zero, at-zeros}
-use Rattle.protocol.proofs.Board.{inRange-fits}
+use Rattle.trace_lines.proofs.Laws.{trace-fits}
 use Rattle.protocol.proofs.Lengths.{sized-fresh}
-use Rattle.din.specs.Automaton.{newLine, scanParsed}
+use Rattle.din.specs.Automaton.{newLine, withBytes, scanParsed}
 use Rattle.din.specs.declared.Line.{Line}
 use Rattle.din.specs.declared.Parsed.{Parsed}
 use Rattle.din.specs.declared.Parsed.the-variants.{Malformed, Labelled}
-use Rattle.engine.specs.Usable.{Usable, Valid}
+use Rattle.engine.specs.Usable.{Usable}
+use Rattle.protocol.proofs.Requests.{request-passed, bill-small}
 use Rattle.engine.proofs.Usable.{usable-served}
-use Rattle.trace.specs.Trace.{traceSetup, processorAt, variableAt, requestAt, lineRefusal, after, afterLine, ended, endedOn}
-use Rattle.trace.specs.Counting.{Stage, freshCount, stateOf, lineNumber, goingOn, refusedBy, judged, lineEnded, lengthened, stepped, reported, closed, finished, Bounded, Little, Ready}
+use Rattle.trace_lines.specs.Trace.{traceSetup, requestAt, lineRefusal, after, afterLine, ended, endedOn}
+use Rattle.trace.specs.Counting.{Stage, freshCount, stateOf, lineNumber, goingOn, judged, lineEnded, stepped, extended, pieced, reported, closed, finished, Bounded, Little, Ready}
 use Rattle.trace.specs.declared.Count.{Count}
-use Rattle.trace.specs.declared.Report.{Report}
+use Rattle.trace_lines.specs.declared.Report.{Report}
 
 -- ---- the setup
-
-pub trace-fits : Fits traceSetup
-unfolding traceSetup inRange
-trace-fits = inRange-fits traceSetup refl
 
 pub usable-fresh : Usable traceSetup (fresh traceSetup)
 unfolding fresh traceSetup
@@ -46,52 +38,25 @@ usable-fresh = record { lengths = sized-fresh traceSetup; named = λ k. omega (a
 
 -- ---- a line's request
 
-pub variable-at : (n d a : ℕ) → variableOf (requestAt n d a) ≡ variableAt a
-unfolding variableOf requestAt
-variable-at n d a = go (eqb d 1)
-  where
-    go : (e : Bool) → variableOf (record { processor = processorAt a; operation = cond e (Write (variableAt a) n) (Read (variableAt a)) }) ≡ variableAt a
-    go true = refl
-    go false = refl
-
-processor-of : (n d a : ℕ) → requestAt n d a .processor ≡ processorAt a
-unfolding requestAt
-processor-of n d a = refl
-
 -- a line that is not refused has a request that can be served
 pub record Taken (m n d a : ℕ) : Type 0 where
   pub valid : Valid traceSetup (requestAt n d a)
-  pub room : m < 1000000
+  pub room : m < requestLimit
 
 pub taken : (m n d a : ℕ) → lineRefusal m n (Labelled d a) ≡ noRefusal → Taken m n d a
-unfolding lineRefusal requestRefusal
+unfolding lineRefusal
 taken m n d a e =
-    let q : Request = requestAt n d a in
-    let x = chosen-zero (leb d 2) _ unknownLabel (λ z. absurd (omega arith)) e in
-    let y = chosen-zero (ltb (q .processor) (traceSetup .processors)) _ noSuchProcessor (λ z. absurd (omega arith)) (x .1) in
-    let z = chosen-zero (ltb (variableOf q .0) (variables traceSetup)) _ noSuchVariable (λ z. absurd (omega arith)) (y .1) in
-    let r = chosen-zero (ltb m 1000000) noRefusal accountFull (λ z. absurd (omega arith)) (z .1) in
-    record { valid = record { processor = ltb-true _ _ (y .0); variable = ltb-true _ _ (z .0) }; room = ltb-true _ _ (r .0) }
+    let x = chosen-zero (leb d 2) (requestRefusal traceSetup m (requestAt n d a)) unknownLabel (omega arith) e in
+    let y = request-passed traceSetup m (requestAt n d a) (x .1) in
+    record { valid = y .0; room = y .1 }
 
 -- ---- what a request adds
 
 pub bill-little : (t : Tables) (q : Request) → Little (bill traceSetup t q)
-unfolding bill fetchCycles writeBackCycles saveCycles updateCycles fetchPrice writeBackPrice traceSetup
-bill-little t q = record {
-  fetch = choice (λ z. z ≤ 4) (holds traceSetup t i b) (λ e. omega arith) (λ e. omega arith);
-  write-back =
-      choice (λ z. z ≤ 4) (holds traceSetup t i b) (λ e. omega arith)
-      (λ e. choice (λ z. z ≤ 4) (marked t (slot traceSetup i b)) (λ e. omega arith) (λ e. omega arith));
-  update =
-      choice (λ z. z ≤ 1) (isWrite q)
-      (λ e. choice (λ z. z ≤ 1) (ltb (payer traceSetup (readied traceSetup t q) i b) 4) (λ e. omega arith) (λ e. omega arith)) (λ e. omega arith);
-}
-  where
-    i : ℕ
-    i = q .processor
-
-    b : Block
-    b = target traceSetup q
+unfolding fetchPrice writeBackPrice traceSetup
+bill-little t q =
+    let c = bill-small traceSetup t q in
+    record { fetch = c .0; write-back = c .1; update = c .2 }
 
 pub bounded-entered : (a : Account) (c : Bill) → Bounded a → a .requests < 1000000 → Little c → Bounded (entered a 1 c)
 bounded-entered a c x h l = record {
@@ -135,13 +100,13 @@ ready-stepped x b r =
     choice Ready (eqb (x .count .refusal) noRefusal)
     (λ e. choice Ready (eqb b 10) (λ e. ready-ended x r) (λ e. record { account = r .account; tables = r .tables })) (λ e. r)
 
--- ---- what each function returns
+pub ready-pieced : (x : Stage) (l : List ℕ) (ends : Bool) → Ready x → Ready (pieced x l ends)
+unfolding pieced
+ready-pieced x l ends r =
+    choice Ready (eqb (x .count .refusal) noRefusal)
+    (λ e. choice Ready ends (λ e. ready-ended (extended x l) (record { account = r .account; tables = r .tables })) (λ e. record { account = r .account; tables = r .tables })) (λ e. r)
 
-pub line-refusal : (m n d a : ℕ)
-    → lineRefusal m n (Labelled d a)
-    ≡ cond (leb d 2) (cond (ltb (processorAt a) 4) (cond (ltb (variableAt a .0) 256) (cond (ltb m 1000000) noRefusal accountFull) noSuchVariable) noSuchProcessor) unknownLabel
-unfolding lineRefusal requestRefusal traceSetup
-line-refusal m n d a = simp (variable-at n d a, processor-of n d a)
+-- ---- what each function returns
 
 -- a line that is refused
 pub judged-refused : (w : State) (n : ℕ) (y : Parsed) (r : ℕ) (l : Line) → l ≡ newLine → r ≡ lineRefusal (w .account .requests) n y → (r ≡ noRefusal → ⊥)
@@ -163,6 +128,21 @@ judged-taken w n d a l p b q t r e = simp (p, q, r, e)
 pub ended-as : (x : Stage) (y : Parsed) → scanParsed (x .count .line .scan) ≡ y → lineEnded x ≡ judged (stateOf x) (lineNumber x) y
 unfolding lineEnded
 ended-as x y e = ap (judged (stateOf x) (lineNumber x)) e
+
+-- a piece of a line: after a refusal, with its newline, and without
+pub pieced-refused : (x : Stage) (l : List ℕ) (ends : Bool) → (x .count .refusal ≡ noRefusal → ⊥) → x ≡ pieced x l ends
+unfolding pieced
+pieced-refused x l ends d = simp (ne-eqb _ _ d)
+
+pub pieced-ended : (x : Stage) (l : List ℕ) (ends : Bool) (y : Parsed) → x .count .refusal ≡ noRefusal → ends ≡ true → y ≡ scanParsed (withBytes (x .count .line) l .scan)
+    → judged (stateOf x) (lineNumber x) y ≡ pieced x l ends
+unfolding pieced lineEnded
+pieced-ended x l ends y e z p = simp (eq-eqb _ _ e, z, p)
+
+pub pieced-more : (x : Stage) (l : List ℕ) (ends : Bool) (m : Line) → x .count .refusal ≡ noRefusal → ends ≡ false → m ≡ withBytes (x .count .line) l
+    → record { count = record { line = m; account = x .count .account; refusal = x .count .refusal }; tables = x .tables } ≡ pieced x l ends
+unfolding pieced
+pieced-more x l ends m e z p = simp (eq-eqb _ _ e, z, p)
 
 -- the end of the input: after a refusal, between two lines, and within a line
 pub finished-refused : (x : Stage) (r : Report) → (x .count .refusal ≡ noRefusal → ⊥) → r ≡ reported (x .count) → record { report = r; tables = x .tables } ≡ finished x

@@ -1,4 +1,3 @@
 pub mod Laws
 pub mod Feeding
 pub mod Whole
-pub mod Run

@@ -16,7 +16,7 @@ use Rattle.din.specs.Automaton.{newLine, withByte, withBytes, scanParsed}
 use Rattle.din.specs.declared.Parsed.{Parsed}
 use Rattle.din.specs.declared.Parsed.the-variants.{Malformed, Labelled}
 use Rattle.din.proofs.Reading.{read-parsed, read-more, width-some}
-use Rattle.trace.specs.Trace.{traceSetup, requestAt, lineRefusal, after, afterLine, Ended, stopped, traced, ended}
+use Rattle.trace_lines.specs.Trace.{traceSetup, requestAt, lineRefusal, after, afterLine, Ended, stopped, traced, ended}
 use Rattle.trace.specs.Counting.{Stage, stateOf, freshCount, goingOn, refusedBy, judged, lineEnded, lengthened, stepped, fed, reported, closed, finished}
 use Rattle.trace.proofs.Feeding.{refused-stays}
 

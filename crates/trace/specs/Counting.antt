@@ -1,7 +1,7 @@
 -- A trace counted byte by byte over lent tables. That this gives `ended` of the bytes is proved in proofs/Whole.antt.
 use Prim.Native.Nat.{ℕ, _+_, _*_, _≤_}
 use mathlib.Core.Path.{_≡_}
-use mathlib.Core.Bool.{cond}
+use mathlib.Core.Bool.{Bool, cond}
 use mathlib.Core.List.{List, [], _∷_}
 use lib.Dec.{ltb, eqb}
 use Rattle.protocol.specs.Refusals.{noRefusal}
@@ -11,13 +11,13 @@ use Rattle.protocol.specs.Accounts.{freshAccount}
 use Rattle.protocol.specs.Runs.{State}
 use Rattle.protocol.specs.declared.Account.{Account}
 use Rattle.protocol.specs.declared.Bill.{Bill}
-use Rattle.din.specs.Automaton.{newLine, withByte, scanParsed}
+use Rattle.din.specs.Automaton.{newLine, withByte, withBytes, scanParsed}
 use Rattle.din.specs.declared.Line.{Line}
 use Rattle.din.specs.declared.Parsed.{Parsed}
 use Rattle.engine.specs.Usable.{Usable}
-use Rattle.trace.specs.Trace.{traceSetup, lineRefusal, afterLine, Ended}
+use Rattle.trace_lines.specs.Trace.{traceSetup, lineRefusal, afterLine, Ended}
 use Rattle.trace.specs.declared.Count.{Count}
-use Rattle.trace.specs.declared.Report.{Report}
+use Rattle.trace_lines.specs.declared.Report.{Report}
 
 -- a count, with the lent tables
 pub record Stage : Type 0 where
@@ -76,6 +76,19 @@ stepped x b = cond (eqb (x .count .refusal) noRefusal) (cond (eqb b 10) (lineEnd
 abbrev pub fed : Stage → List ℕ → Stage
 fed x [] = x
 fed x (b ∷ bs) = fed (stepped x b) bs
+
+-- ---- a piece of a line
+
+-- more bytes of the current line
+abbrev pub extended : Stage → List ℕ → Stage
+extended x l = record {
+  count = record { line = withBytes (x .count .line) l; account = x .count .account; refusal = x .count .refusal };
+  tables = x .tables;
+}
+
+-- with the newline behind them, or not
+unfoldable pub pieced : Stage → List ℕ → Bool → Stage
+pieced x l ends = cond (eqb (x .count .refusal) noRefusal) (cond ends (lineEnded (extended x l)) (extended x l)) x
 
 -- ---- the end of the input
 

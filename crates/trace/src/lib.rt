@@ -3,95 +3,23 @@ use din::Line;
 use din::Parsed;
 use protocol::Account;
 use protocol::Bill;
-use protocol::Operation;
-use protocol::Request;
-use protocol::Setup;
-use protocol::Variable;
+use trace_lines::Report;
+use trace_lines::line_refusal;
+use trace_lines::request_at;
+use trace_lines::trace_setup;
 ghost use mathlib.Core.Path.{_≡_};
-ghost use Prim.Native.Nat.{ℕ, _+_, _<_, _≤_};
+ghost use Prim.Native.Nat.{_+_};
 ghost use Rattle.protocol.specs.Tables.{tables, fresh};
 ghost use Rattle.protocol.specs.Accounts.{entered};
 ghost use Rattle.engine.specs.Usable.{Usable};
-ghost use Rattle.trace.specs.Trace.{traceSetup, processorAt, variableAt, requestAt, lineRefusal, ended, endedOn};
-ghost use Rattle.trace.specs.Counting.{stage, state, freshCount, refusedBy, judged, lineEnded, stepped, fed, reported, finished, Bounded, Little, Ready, reporting};
-
-// What is reported: the account, and the refusal and its line, 0 and 0 if none.
-pub struct Report {
-    pub account: Account,
-    pub refusal: u32,
-    pub line: u32,
-}
+ghost use Rattle.trace_lines.specs.Trace.{traceSetup, ended, endedOn};
+ghost use Rattle.trace.specs.Counting.{stage, state, freshCount, judged, pieced, fed, reported, finished, Bounded, Little, Ready, reporting};
 
 // A trace so far: its current line, what the lines before came to, and the refusal that stopped it, or 0.
 pub struct Count {
     pub line: Line,
     pub account: Account,
     pub refusal: u32,
-}
-
-// The setup of every trace.
-pub fn trace_setup() -> Setup
-    ensures { λ r. ⌜ r ≡ traceSetup ⌝ }
-{
-    Setup {
-        processors: 4,
-        lines: 8,
-        words: 4,
-        blocks: 64,
-    }
-}
-
-// The top byte of an address.
-fn processor_at(address: u32) -> u32
-    ensures { λ r. ⌜ r ≡ processorAt address ⌝ }
-{
-    address / 16777216
-}
-
-// The low 24 bits of an address, divided by 4.
-fn variable_at(address: u32) -> Variable
-    ensures { λ r. ⌜ r ≡ variableAt address ⌝ }
-{
-    Variable(address % 16777216 / 4)
-}
-
-// The request of a line: label 1 writes the line's number, another reads.
-fn request_at(number: u32, label: u32, address: u32) -> Request
-    ensures { λ r. ⌜ r ≡ requestAt number label address ⌝ }
-{
-    let processor = processor_at(address);
-    let variable = variable_at(address);
-    if label == 1 {
-        return Request {
-            processor: processor,
-            operation: Operation::Write(variable, number),
-        };
-    }
-    Request {
-        processor: processor,
-        operation: Operation::Read(variable),
-    }
-}
-
-// 7, 3, 4 and 22, in this order.
-fn line_refusal(requests: u32, label: u32, address: u32) -> u32
-    ensures { λ r. ⌜ ((n : ℕ) → r ≡ lineRefusal requests n (Parsed.Labelled label address)) ⌝ }
-{
-    let setup = trace_setup();
-    if label > 2 {
-        return protocol::UNKNOWN_LABEL;
-    }
-    if processor_at(address) >= setup.processors {
-        return protocol::NO_SUCH_PROCESSOR;
-    }
-    let variable = variable_at(address);
-    if variable.0 >= setup.blocks * setup.words {
-        return protocol::NO_SUCH_VARIABLE;
-    }
-    if requests >= 1000000 {
-        return protocol::ACCOUNT_FULL;
-    }
-    protocol::NO_REFUSAL
 }
 
 // The account after a request with this bill.
@@ -151,22 +79,21 @@ fn take_line(
     }
 }
 
-// The current line ends.
-fn end_line(
-    count: Count,
+// A line that is so parsed ends.
+fn judge(
+    account: Account,
+    parsed: Parsed,
     blocks: &mut [u32],
     counters: &mut [u32],
     marks: &mut [u32],
     words: &mut [u32],
     memory: &mut [u32],
 ) -> Count
-    requires { ⌜ Ready (stage count (now blocks) (now counters) (now marks) (now words) (now memory)) ⌝ }
+    requires { ⌜ Bounded account ⌝ }
+    requires { ⌜ Usable traceSetup (tables (now blocks) (now counters) (now marks) (now words) (now memory)) ⌝ }
     ensures { λ r. ⌜ stage r (now (blocks .exit)) (now (counters .exit)) (now (marks .exit)) (now (words .exit)) (now (memory .exit))
-        ≡ lineEnded (stage count (now (blocks .entry)) (now (counters .entry)) (now (marks .entry)) (now (words .entry)) (now (memory .entry))) ⌝ }
+        ≡ judged (state account (now (blocks .entry)) (now (counters .entry)) (now (marks .entry)) (now (words .entry)) (now (memory .entry))) (account .requests + 1) parsed ⌝ }
 {
-    let line = count.line;
-    let account = count.account;
-    let parsed = line.parsed();
     match parsed {
         Parsed::Malformed => Count {
             line: Line::new(),
@@ -186,10 +113,11 @@ fn end_line(
     }
 }
 
-// One byte. After a refusal nothing changes any more.
-fn byte(
+// More bytes of the current line, with the newline behind them or not. After a refusal nothing changes any more.
+fn take_piece(
     count: Count,
-    b: u8,
+    piece: &[u8],
+    ends: bool,
     blocks: &mut [u32],
     counters: &mut [u32],
     marks: &mut [u32],
@@ -198,19 +126,20 @@ fn byte(
 ) -> Count
     requires { ⌜ Ready (stage count (now blocks) (now counters) (now marks) (now words) (now memory)) ⌝ }
     ensures { λ r. ⌜ stage r (now (blocks .exit)) (now (counters .exit)) (now (marks .exit)) (now (words .exit)) (now (memory .exit))
-        ≡ stepped (stage count (now (blocks .entry)) (now (counters .entry)) (now (marks .entry)) (now (words .entry)) (now (memory .entry))) b ⌝ }
+        ≡ pieced (stage count (now (blocks .entry)) (now (counters .entry)) (now (marks .entry)) (now (words .entry)) (now (memory .entry))) (now (piece .entry)) ends ⌝ }
 {
     let stopped = count.refusal;
     if stopped != protocol::NO_REFUSAL {
         return count;
     }
-    if b == b'\n' {
-        return end_line(count, blocks, counters, marks, words, memory);
-    }
     let line = count.line;
     let account = count.account;
+    if ends {
+        let parsed = line.ended(piece);
+        return judge(account, parsed, blocks, counters, marks, words, memory);
+    }
     Count {
-        line: line.byte(b),
+        line: line.bytes(piece),
         account: account,
         refusal: stopped,
     }
@@ -271,8 +200,19 @@ pub fn feed(
     let mut at = count;
     let mut i = 0;
     while i < bytes.len() {
-        at = byte(at, bytes[i], blocks, counters, marks, words, memory);
-        i += 1;
+        let end = din::line_end(bytes, i);
+        let ends = end < bytes.len();
+        at = take_piece(
+            at,
+            &bytes[i..end],
+            ends,
+            blocks,
+            counters,
+            marks,
+            words,
+            memory,
+        );
+        i = din::next_line(bytes, end);
     }
     at
 }
@@ -297,7 +237,16 @@ pub fn finish(
     if line.width == 0 {
         return count.reported();
     }
-    let last = end_line(count, blocks, counters, marks, words, memory);
+    let account = count.account;
+    let last = judge(
+        account,
+        line.parsed(),
+        blocks,
+        counters,
+        marks,
+        words,
+        memory,
+    );
     last.reported()
 }
 
@@ -329,8 +278,8 @@ pub fn count_trace(
     ensures { λ r. ⌜ reporting r (now (blocks .exit)) (now (counters .exit)) (now (marks .exit)) (now (words .exit)) (now (memory .exit))
         ≡ endedOn (tables (now (blocks .entry)) (now (counters .entry)) (now (marks .entry)) (now (words .entry)) (now (memory .entry))) (now (bytes .entry)) ⌝ }
 {
-    let refusal = tables::start(trace_setup(), blocks, counters, marks, words, memory);
-    if refusal != protocol::NO_REFUSAL {
+    let started = tables::start(trace_setup(), blocks, counters, marks, words, memory);
+    if started != protocol::NO_REFUSAL {
         return Report {
             account: Account {
                 requests: 0,
@@ -338,7 +287,7 @@ pub fn count_trace(
                 write_back: 0,
                 update: 0,
             },
-            refusal: refusal,
+            refusal: started,
             line: 0,
         };
     }

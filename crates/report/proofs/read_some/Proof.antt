@@ -1,5 +1,4 @@
-use lib.ListN.{take}
-use Rattle.report.proofs.Laws.{reached-more, reached-ready}
+use Rattle.report.proofs.Laws.{took-none}
 use borrow.Author.Needs.{needs}
 use Rattle.report.proofs.read_some.Statement.{statement}
 use Rattle.report.proofs.read_some.Tie as tie
@@ -11,7 +10,7 @@ same-length : tie.Need-same-length
 same-length c = search needs
 
 returns : tie.Need-returns
-returns c = search needs
+returns c = took-none _ _
 
 count-requires : tie.Need-count-requires
 count-requires c κs = search needs
@@ -23,7 +22,7 @@ slice-aggregate-feed : tie.Need-slice-aggregate-feed
 slice-aggregate-feed c = search needs
 
 feed-requires : tie.Need-feed-requires
-feed-requires c κs = reached-ready _ (c .before .before .before .before .before .before .before .before .before .before .before .before .before .before .before .before .before .before .before .pre)
+feed-requires c κs = search needs
 
 same-length-2 : tie.Need-same-length-2
 same-length-2 c = search needs
@@ -44,7 +43,7 @@ same-length-7 : tie.Need-same-length-7
 same-length-7 c = search needs
 
 returns-2 : tie.Need-returns-2
-returns-2 c = reached-more _ _ (take (c .before .before .before .before .before .before .before .before .before .before .before .before .before .before .before .before .before .count .result) (c .before .before .before .before .before .before .before .before .before .before .before .before .before .before .before .before .before .before .before .before .before .before .read .last .1 .0)) (c .before .before .before .before .before .before .before .before .before .before .before .before .before .before .before .before .before .before .before .before .before .before .before .before .before .before .before .before .before .before .pre) (c .before .before .before .before .before .before .before .before .before .before .feed .ensures)
+returns-2 c = record { count = c .before .before .before .before .before .before .before .before .before .before .before .before .before .before .before .before .before .count .result; is = c .before .before .before .before .before .before .before .before .before .before .feed .ensures }
 
 pub read-some-spec : {M : Type 1} → statement M
 read-some-spec =

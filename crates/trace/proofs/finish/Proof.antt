@@ -1,6 +1,7 @@
-use mathlib.Core.Path.{_≡_, sym, subst}
-use Rattle.trace.specs.Counting.{Stage, stage, Bounded, lineEnded}
-use Rattle.trace.proofs.Laws.{ready-ended, finished-refused, finished-between, finished-within}
+use mathlib.Core.Path.{_≡_, sym, subst, _∙_}
+use Rattle.trace.specs.Counting.{Stage, Bounded}
+use Rattle.trace.proofs.Laws.{ready-ended, ended-as, finished-refused, finished-between, finished-within}
+use native.Mathlib.Omega.{arith}
 use borrow.Author.Needs.{needs}
 use Rattle.trace.proofs.finish.Statement.{statement}
 use Rattle.trace.proofs.finish.Tie as tie
@@ -15,13 +16,16 @@ reported-requires-2 : tie.Need-reported-requires-2
 reported-requires-2 c κs = search needs
 
 returns-2 : tie.Need-returns-2
-returns-2 c = finished-between _ _ (c .before .before .before .if1 .left) (c .before .if2 .taken) (c .reported2 .ensures)
+returns-2 c = finished-between _ _ (c .before .before .before .if1 .left) (omega (arith, c .before .if2 .taken)) (c .reported2 .ensures)
 
-end-line-requires : tie.Need-end-line-requires
-end-line-requires c κs = search needs
+parsed-requires : tie.Need-parsed-requires
+parsed-requires c κs = search needs
+
+judge-requires : tie.Need-judge-requires
+judge-requires c κs = search needs
 
 reported-requires-3 : tie.Need-reported-requires-3
-reported-requires-3 c κs = subst (λ (x : Stage). Bounded (x .count .account)) (sym (c .before .before .before .before .before .before .before .before .before .before .end-line .ensures)) (ready-ended _ (c .before .before .before .before .before .before .before .before .before .before .before .before .before .before .before .before .before .before .before .before .before .before .before .before .before .before .pre) .account)
+reported-requires-3 c κs = subst (λ (x : Stage). Bounded (x .count .account)) (sym (c .before .before .before .before .before .before .before .before .before .before .judge .ensures ∙ sym (ended-as _ _ (sym (c .before .before .before .before .before .before .before .before .before .before .before .before .before .before .before .before .parsed .ensures))))) (ready-ended _ (c .before .before .before .before .before .before .before .before .before .before .before .before .before .before .before .before .before .before .before .before .before .before .before .before .before .before .before .before .pre) .account)
 
 same-length : tie.Need-same-length
 same-length c = search needs
@@ -39,7 +43,7 @@ same-length-5 : tie.Need-same-length-5
 same-length-5 c = search needs
 
 returns-3 : tie.Need-returns-3
-returns-3 c = finished-within _ _ _ (c .before .before .before .before .before .before .before .before .before .before .before .before .before .before .before .before .before .before .before .if1 .left) (c .before .before .before .before .before .before .before .before .before .before .before .before .before .before .before .before .before .if2 .left) (c .before .before .before .before .before .before .before .before .before .before .before .end-line .ensures) (c .reported3 .ensures)
+returns-3 c = finished-within _ _ _ (c .before .before .before .before .before .before .before .before .before .before .before .before .before .before .before .before .before .before .before .before .before .if1 .left) (c .before .before .before .before .before .before .before .before .before .before .before .before .before .before .before .before .before .before .before .if2 .left) (c .before .before .before .before .before .before .before .before .before .before .before .judge .ensures ∙ sym (ended-as _ _ (sym (c .before .before .before .before .before .before .before .before .before .before .before .before .before .before .before .before .before .parsed .ensures)))) (c .reported3 .ensures)
 
 pub finish-spec : {M : Type 1} → statement M
 finish-spec =
@@ -49,7 +53,8 @@ finish-spec =
     returns
     reported-requires-2
     returns-2
-    end-line-requires
+    parsed-requires
+    judge-requires
     reported-requires-3
     same-length
     same-length-2

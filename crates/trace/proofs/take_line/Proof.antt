@@ -3,9 +3,10 @@ use mathlib.Core.Path.{_≡_, sym, ap, _∙_}
 use Rattle.protocol.specs.Tables.{tables}
 use Rattle.protocol.specs.Requests.{bill}
 use Rattle.protocol.specs.Accounts.{entered}
-use Rattle.trace.specs.Trace.{traceSetup, requestAt}
+use Rattle.trace_lines.specs.Trace.{traceSetup, requestAt}
 use Rattle.trace.specs.Counting.{state}
-use Rattle.trace.proofs.Laws.{trace-fits, taken, bill-little, judged-refused, judged-taken}
+use Rattle.trace_lines.proofs.Laws.{trace-fits}
+use Rattle.trace.proofs.Laws.{taken, bill-little, judged-refused, judged-taken}
 use borrow.Author.Needs.{needs}
 use Rattle.trace.proofs.take_line.Statement.{statement}
 use Rattle.trace.proofs.take_line.Tie as tie

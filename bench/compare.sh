@@ -1,0 +1,22 @@
+#!/usr/bin/env bash
+# Holds buscount to the plain C program on random traces in pieces of odd sizes, and to what document 01 says at the
+# limit of 1,000,000 requests (22 at line 1,000,001), on a line of 1 GB, and after a read error. Needs rt, gcc and python3.
+set -eu
+cd "$(dirname "$0")/.."
+out=target/bench
+mkdir -p "$out"
+[ -x target/bin/buscount ] || rt check buscount > /dev/null
+gcc -O3 -o "$out/c" bench/buscount.c
+python3 bench/compare.py target/bin/buscount "$out/c" "${TRACES:-1000}"
+
+limit=$( (python3 bench/make_trace.py; echo "0 0") | target/bin/buscount | tail -n 1)
+[ "$limit" = "ended 22 1000001" ] || { echo "the limit: $limit"; exit 1; }
+echo "1,000,001 lines: $limit"
+
+long=$(head -c 1000000000 /dev/zero | tr '\0' '0' | target/bin/buscount | tail -n 1)
+[ "$long" = "ended 6 1" ] || { echo "a long line: $long"; exit 1; }
+echo "a line of 1 GB: $long"
+
+target/bin/buscount < . > "$out/printed" 2> "$out/said"
+[ ! -s "$out/printed" ] && grep -q "could not be read" "$out/said" || { echo "a read error printed:"; cat "$out/printed" "$out/said"; exit 1; }
+echo "a read error: $(cat "$out/said")"
