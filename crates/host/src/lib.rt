@@ -1,0 +1,220 @@
+// The product for hosts in C and Rust: functions of plain numbers, and nothing else crosses. Every out-parameter is always written.
+use protocol::Account;
+use protocol::Block;
+use protocol::PriceAnswer;
+use protocol::Setup;
+ghost use mathlib.Core.Path.{_≡_};
+ghost use Rattle.protocol.specs.Tables.{tables};
+ghost use Rattle.protocol.specs.Rival.{rival};
+ghost use Rattle.protocol.specs.Runs.{startRefusal, started, run as ran};
+ghost use Rattle.protocol.specs.Pricer.{price as priced, priceTables, numberOf, placeOf, costOf};
+ghost use Rattle.run.specs.Outcomes.{outcome};
+ghost use Rattle.trace_lines.specs.Trace.{endedOn};
+ghost use Rattle.numbers.specs.Numbers.{requestsOf, entriesOf, accountOf, lookLength, lookOffset};
+ghost use Rattle.host.specs.Host.{setupOf, blockOf, answerOf, reportOf, Told};
+
+// A setup by its four numbers.
+fn setup_of(processors: u32, lines: u32, block_words: u32, block_count: u32) -> Setup
+    ensures { λ r. ⌜ r ≡ setupOf processors lines «block_words» «block_count» ⌝ }
+{
+    Setup {
+        processors: processors,
+        lines: lines,
+        words: block_words,
+        blocks: block_count,
+    }
+}
+
+// Fills all tables with 0. The refusal number, or 0.
+#[no_mangle]
+pub extern "C" fn cuzkelor_start(
+    processors: u32,
+    lines: u32,
+    block_words: u32,
+    block_count: u32,
+    blocks: &mut [u32],
+    counters: &mut [u32],
+    marks: &mut [u32],
+    words: &mut [u32],
+    memory: &mut [u32],
+) -> u32
+    ensures { λ r. ⌜ (r ≡ startRefusal (setupOf processors lines «block_words» «block_count») (tables (now (blocks .entry)) (now (counters .entry)) (now (marks .entry)) (now (words .entry)) (now (memory .entry))))
+        × (tables (now (blocks .exit)) (now (counters .exit)) (now (marks .exit)) (now (words .exit)) (now (memory .exit)) ≡ started (setupOf processors lines «block_words» «block_count») (tables (now (blocks .entry)) (now (counters .entry)) (now (marks .entry)) (now (words .entry)) (now (memory .entry)))) ⌝ }
+{
+    let setup = setup_of(processors, lines, block_words, block_count);
+    tables::start(setup, blocks, counters, marks, words, memory)
+}
+
+// The length of the part of the words that a look at a block shows; 0 where it is not held.
+#[no_mangle]
+pub extern "C" fn cuzkelor_look_length(
+    processors: u32,
+    lines: u32,
+    block_words: u32,
+    block_count: u32,
+    blocks: &[u32],
+    counters: &[u32],
+    words: &[u32],
+    processor: u32,
+    block: u32,
+) -> usize
+    ensures { λ r. ⌜ r ≡ lookLength (setupOf processors lines «block_words» «block_count») (now (blocks .entry)) (now (counters .entry)) (now (words .entry)) processor (blockOf block) ⌝ }
+{
+    let setup = setup_of(processors, lines, block_words, block_count);
+    numbers::look_length(setup, processor, Block(block), blocks, counters, words)
+}
+
+// Where that part begins.
+#[no_mangle]
+pub extern "C" fn cuzkelor_look_offset(
+    processors: u32,
+    lines: u32,
+    block_words: u32,
+    block_count: u32,
+    blocks: &[u32],
+    counters: &[u32],
+    words: &[u32],
+    processor: u32,
+    block: u32,
+) -> usize
+    ensures { λ r. ⌜ r ≡ lookOffset (setupOf processors lines «block_words» «block_count») (now (blocks .entry)) (now (counters .entry)) (now (words .entry)) processor (blockOf block) ⌝ }
+{
+    let setup = setup_of(processors, lines, block_words, block_count);
+    numbers::look_offset(setup, processor, Block(block), blocks, counters, words)
+}
+
+// A run of the requests, four numbers each. The refusal number, or 0.
+#[no_mangle]
+pub extern "C" fn cuzkelor_run(
+    processors: u32,
+    lines: u32,
+    block_words: u32,
+    block_count: u32,
+    blocks: &mut [u32],
+    counters: &mut [u32],
+    marks: &mut [u32],
+    words: &mut [u32],
+    memory: &mut [u32],
+    account_requests: &mut u32,
+    account_fetch: &mut u32,
+    account_write_back: &mut u32,
+    account_update: &mut u32,
+    requests: &[u32],
+    values: &mut [u32],
+    taken: &mut usize,
+    place: &mut usize,
+) -> u32
+    ensures { λ r. ⌜ outcome (answerOf (now (taken .exit)) r (now (place .exit))) (tables (now (blocks .exit)) (now (counters .exit)) (now (marks .exit)) (now (words .exit)) (now (memory .exit)))
+        (accountOf (now («account_requests» .exit)) (now («account_fetch» .exit)) (now («account_write_back» .exit)) (now («account_update» .exit))) (now (values .exit))
+        ≡ ran (setupOf processors lines «block_words» «block_count») (tables (now (blocks .entry)) (now (counters .entry)) (now (marks .entry)) (now (words .entry)) (now (memory .entry)))
+        (accountOf (now («account_requests» .entry)) (now («account_fetch» .entry)) (now («account_write_back» .entry)) (now («account_update» .entry))) (requestsOf (now (requests .entry))) (now (values .entry)) ⌝ }
+{
+    let setup = setup_of(processors, lines, block_words, block_count);
+    let account = Account {
+        requests: *account_requests,
+        fetch: *account_fetch,
+        write_back: *account_write_back,
+        update: *account_update,
+    };
+    let ran = numbers::run(
+        setup,
+        blocks,
+        counters,
+        marks,
+        words,
+        memory,
+        account,
+        requests,
+        values,
+    );
+    *account_requests = ran.account.requests;
+    *account_fetch = ran.account.fetch;
+    *account_write_back = ran.account.write_back;
+    *account_update = ran.account.update;
+    *taken = ran.answer.taken;
+    *place = ran.answer.place;
+    ran.answer.refusal
+}
+
+// The refusal number of an answer, or 0.
+fn number_of(answer: PriceAnswer) -> u32
+    ensures { λ r. ⌜ r ≡ numberOf answer ⌝ }
+{
+    match answer {
+        PriceAnswer::Accepted(_) => protocol::NO_REFUSAL,
+        PriceAnswer::Refused(number, _) => number,
+    }
+}
+
+// Its place; 0 with no refusal.
+fn place_of(answer: PriceAnswer) -> usize
+    ensures { λ r. ⌜ r ≡ placeOf answer ⌝ }
+{
+    match answer {
+        PriceAnswer::Accepted(_) => 0,
+        PriceAnswer::Refused(_, place) => place,
+    }
+}
+
+// Its cost; 0 with a refusal.
+fn cost_of(answer: PriceAnswer) -> u32
+    ensures { λ r. ⌜ r ≡ costOf answer ⌝ }
+{
+    match answer {
+        PriceAnswer::Accepted(cost) => cost,
+        PriceAnswer::Refused(_, _) => 0,
+    }
+}
+
+// The price of a schedule, three numbers an entry, for the requests, four numbers each. The refusal number, or 0.
+#[no_mangle]
+pub extern "C" fn cuzkelor_price(
+    processors: u32,
+    lines: u32,
+    block_words: u32,
+    block_count: u32,
+    blocks: &mut [u32],
+    held: &mut [u32],
+    marks: &mut [u32],
+    entries: &[u32],
+    requests: &[u32],
+    place: &mut usize,
+    cost: &mut u32,
+) -> u32
+    ensures { λ r. ⌜ Told (priced (setupOf processors lines «block_words» «block_count») (rival (now (blocks .entry)) (now (held .entry)) (now (marks .entry))) (requestsOf (now (requests .entry))) (entriesOf (now (entries .entry)))) r (now (place .exit)) (now (cost .exit))
+        × (rival (now (blocks .exit)) (now (held .exit)) (now (marks .exit)) ≡ priceTables (setupOf processors lines «block_words» «block_count») (rival (now (blocks .entry)) (now (held .entry)) (now (marks .entry))) (requestsOf (now (requests .entry))) (entriesOf (now (entries .entry)))) ⌝ }
+{
+    let setup = setup_of(processors, lines, block_words, block_count);
+    let answer = numbers::price(setup, blocks, held, marks, entries, requests);
+    *place = place_of(answer);
+    *cost = cost_of(answer);
+    number_of(answer)
+}
+
+// A whole trace on tables that are started here. The refusal number, or 0.
+#[no_mangle]
+pub extern "C" fn cuzkelor_count_trace(
+    bytes: &[u8],
+    blocks: &mut [u32],
+    counters: &mut [u32],
+    marks: &mut [u32],
+    words: &mut [u32],
+    memory: &mut [u32],
+    account_requests: &mut u32,
+    account_fetch: &mut u32,
+    account_write_back: &mut u32,
+    account_update: &mut u32,
+    line: &mut u32,
+) -> u32
+    ensures { λ r. ⌜ reportOf (accountOf (now («account_requests» .exit)) (now («account_fetch» .exit)) (now («account_write_back» .exit)) (now («account_update» .exit))) r (now (line .exit))
+        (tables (now (blocks .exit)) (now (counters .exit)) (now (marks .exit)) (now (words .exit)) (now (memory .exit)))
+        ≡ endedOn (tables (now (blocks .entry)) (now (counters .entry)) (now (marks .entry)) (now (words .entry)) (now (memory .entry))) (now (bytes .entry)) ⌝ }
+{
+    let report = trace::count_trace(bytes, blocks, counters, marks, words, memory);
+    *account_requests = report.account.requests;
+    *account_fetch = report.account.fetch;
+    *account_write_back = report.account.write_back;
+    *account_update = report.account.update;
+    *line = report.line;
+    report.refusal
+}

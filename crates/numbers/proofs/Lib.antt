@@ -1,0 +1,4 @@
+pub mod Decoding
+pub mod Looks
+mod Runs
+mod Prices

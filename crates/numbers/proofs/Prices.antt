@@ -1,0 +1,69 @@
+-- The pricer's loop laws (Rattle.pricer.proofs.Loop) where the entries and the requests are numbers. Assumes nothing.
+use Prim.Native.Nat.{ℕ, _+_, _*_, _/_, _<_}
+use mathlib.Core.Path.{_≡_, sym, ap, _∙_, subst}
+use mathlib.Core.Bool.{true, false}
+use mathlib.Core.List.{List}
+use native.Mathlib.Omega.{arith}
+use lib.ListN.{length, getD}
+use Rattle.protocol.specs.Lists.{at}
+use Rattle.protocol.specs.Rival.{Rival}
+use Rattle.protocol.specs.declared.Setup.{Setup}
+use Rattle.protocol.specs.declared.Request.{Request}
+use Rattle.protocol.specs.declared.Entry.{Entry}
+use Rattle.pricing.specs.Stages.{Stage, begun, took, completed}
+use Rattle.pricer.proofs.Loop.{no-entry, no-request, Inv, μ, inv-start, at-entry, inv-took, falls-took, at-request, inv-completed, falls-completed}
+use Rattle.numbers.specs.Numbers.{requestOf, requestsOf, entryOf, entriesOf}
+use Rattle.numbers.proofs.Decoding.{request-count, request-at as request-is, entry-count, entry-at as entry-is}
+
+module _ (s : Setup) (r : Rival) (ms ns : List ℕ) where
+  abbrev pub Sound : Stage → Type 0
+  Sound x = Inv s r (entriesOf ms) (requestsOf ns) x
+
+  abbrev pub left : Stage → ℕ
+  left x = μ s r (entriesOf ms) (requestsOf ns) x
+
+  pub begins : Sound (begun s r (length ms / 3) (length ns / 4))
+  begins =
+      subst (λ (n : ℕ). Sound (begun s r (length ms / 3) n)) (request-count ns)
+      (subst (λ (m : ℕ). Sound (begun s r m (length (requestsOf ns)))) (entry-count ms) (inv-start s r (entriesOf ms) (requestsOf ns)))
+
+  module _ (x : Stage) (i : Sound x) (go : x .progress .going ≡ true) where
+    -- ---- an entry
+
+    module _ (flag : x .progress .completing ≡ false) where
+      abbrev a : ℕ
+      a = x .progress .at
+
+      pub entry-within : a < length ms / 3
+      entry-within = omega (arith, at-entry s r (entriesOf ms) (requestsOf ns) x i go, entry-count ms)
+
+      -- the stage after the entry at the place
+      module _ (e : Entry) (is : e ≡ entryOf (at ms (a * 3)) (at ms (a * 3 + 1)) (at ms (a * 3 + 2))) (y : Stage) (after : y ≡ took s x e) where
+        taken : took s x (getD (entriesOf ms) a no-entry) ≡ y
+        taken = ap (took s x) (sym (is ∙ entry-is ms a no-entry entry-within)) ∙ sym after
+
+        pub takes : Sound y
+        takes = subst Sound taken (inv-took s r (entriesOf ms) (requestsOf ns) x i go flag)
+
+        pub takes-falls : left y < left x
+        takes-falls = subst (λ (z : Stage). left z < left x) taken (falls-took s r (entriesOf ms) (requestsOf ns) x i go flag)
+
+    -- ---- the request of a completion
+
+    module _ (flag : x .progress .completing ≡ true) where
+      abbrev k : ℕ
+      k = x .progress .next
+
+      pub request-within : k < length ns / 4
+      request-within = omega (arith, at-request s r (entriesOf ms) (requestsOf ns) x i go flag, request-count ns)
+
+      -- the stage after the request at the place
+      module _ (q : Request) (is : q ≡ requestOf (at ns (k * 4)) (at ns (k * 4 + 1)) (at ns (k * 4 + 2)) (at ns (k * 4 + 3))) (y : Stage) (after : y ≡ completed s x q) where
+        done : completed s x (getD (requestsOf ns) k no-request) ≡ y
+        done = ap (completed s x) (sym (is ∙ request-is ns k no-request request-within)) ∙ sym after
+
+        pub completes : Sound y
+        completes = subst Sound done (inv-completed s r (entriesOf ms) (requestsOf ns) x i go flag)
+
+        pub completes-falls : left y < left x
+        completes-falls = subst (λ (z : Stage). left z < left x) done (falls-completed s r (entriesOf ms) (requestsOf ns) x i go flag)

@@ -1,0 +1,313 @@
+/* Plays the document's sessions, its printed trace, a look and a schedule through the archive from C. */
+#include "../cuzkelor.h"
+#include <stdbool.h>
+#include <stdio.h>
+#include <stdlib.h>
+#include <string.h>
+
+enum { N = 4, L = 8, P = 4, M = 64, SLOTS = N * L, GARBAGE = 0x5555 };
+
+static const cuzkelor_setup SETUP = {N, L, P, M};
+static const cuzkelor_setup ONE_WORD = {N, L, 1, M};
+
+/* Tables and account of one host, with room for any setup up to SETUP's. */
+struct host {
+    cuzkelor_setup setup;
+    uint32_t blocks[SLOTS], counters[SLOTS], marks[SLOTS], words[SLOTS * P], memory[M * P];
+    cuzkelor_account account;
+};
+
+struct cycles {
+    uint32_t fetch, write_back, update;
+};
+
+static void check(bool holds, const char *what) {
+    if (holds) return;
+    printf("failed: %s\n", what);
+    exit(1);
+}
+
+static void passed(const char *name) { printf("%s: passed\n", name); }
+
+static cuzkelor_numbers lent(uint32_t *at, size_t length) {
+    cuzkelor_numbers numbers = {at, length};
+    return numbers;
+}
+
+static cuzkelor_tables tables_of(struct host *h) {
+    size_t slots = h->setup.processors * h->setup.lines, p = h->setup.block_words;
+    cuzkelor_tables tables = {lent(h->blocks, slots), lent(h->counters, slots), lent(h->marks, slots),
+                              lent(h->words, slots * p), lent(h->memory, h->setup.block_count * p)};
+    return tables;
+}
+
+static struct host fresh(cuzkelor_setup setup) {
+    struct host h;
+    memset(&h, 0x77, sizeof h);
+    h.setup = setup;
+    memset(&h.account, 0, sizeof h.account);
+    cuzkelor_tables tables = tables_of(&h);
+    check(cuzkelor_start_tables(setup, &tables) == CUZKELOR_NO_REFUSAL, "starting");
+    return h;
+}
+
+static cuzkelor_run_answer try_one(struct host *h, cuzkelor_request request, uint32_t *value) {
+    cuzkelor_tables tables = tables_of(h);
+    return cuzkelor_run_requests(h->setup, &tables, &h->account, &request, 1, value, 1);
+}
+
+/* One request that is taken, supplies or writes this value, and is charged these cycles. */
+static void one(struct host *h, cuzkelor_request request, uint32_t value, struct cycles cycles) {
+    cuzkelor_account before = h->account;
+    uint32_t got = GARBAGE;
+    cuzkelor_run_answer answer = try_one(h, request, &got);
+    check(answer.refusal == 0 && answer.taken == 1 && answer.place == 0, "the answer");
+    check(got == value, "the value");
+    check(h->account.requests == before.requests + 1, "requests taken");
+    check(h->account.fetch == before.fetch + cycles.fetch, "fetch cycles");
+    check(h->account.write_back == before.write_back + cycles.write_back, "write-back cycles");
+    check(h->account.update == before.update + cycles.update, "update cycles");
+}
+
+static void reads(struct host *h, uint32_t i, uint32_t variable, uint32_t value, struct cycles cycles) {
+    one(h, cuzkelor_read(i, cuzkelor_make_variable(variable)), value, cycles);
+}
+
+static void writes(struct host *h, uint32_t i, uint32_t variable, uint32_t value, struct cycles cycles) {
+    one(h, cuzkelor_write(i, cuzkelor_make_variable(variable), value), value, cycles);
+}
+
+static const struct cycles NOTHING = {0, 0, 0}, FETCH = {P, 0, 0}, UPDATE = {0, 0, 1};
+
+/* Counter and mark of line 0 in a processor's cache. */
+static bool line_0(const struct host *h, uint32_t i, uint32_t counter, uint32_t mark) {
+    return h->counters[i * L] == counter && h->marks[i * L] == mark;
+}
+
+static struct host after_s1(void) {
+    struct host h = fresh(SETUP);
+    reads(&h, 0, 0, 0, FETCH);
+    return h;
+}
+
+static struct host after_s3(void) {
+    struct host h = after_s1();
+    writes(&h, 0, 0, 7, NOTHING);
+    return h;
+}
+
+static struct host after_s4(void) {
+    struct host h = after_s3();
+    reads(&h, 1, 0, 7, FETCH);
+    return h;
+}
+
+static struct host after_s5(void) {
+    struct host h = after_s4();
+    for (uint32_t k = 1; k <= 4; k++) {
+        check(line_0(&h, 1, 5 - k, 0), "the payer's counter");
+        writes(&h, 0, k % 4, k, UPDATE);
+    }
+    return h;
+}
+
+static void s1(void) {
+    struct host h = after_s1();
+    check(line_0(&h, 0, 4, 0), "counter 4");
+}
+
+static void s2(void) {
+    struct host h = after_s1(), before = h;
+    reads(&h, 0, 0, 0, NOTHING);
+    h.account = before.account;
+    check(memcmp(&h, &before, sizeof h) == 0, "tables unchanged");
+}
+
+static void s3(void) {
+    struct host h = after_s3();
+    check(line_0(&h, 0, 4, 1) && h.memory[0] == 0, "marked, memory as it was");
+}
+
+static void s4(void) {
+    struct host h = after_s4();
+    check(line_0(&h, 0, 4, 0) && line_0(&h, 1, 4, 0), "both counters 4, no mark");
+    check(h.memory[0] == 7, "memory holds 7");
+}
+
+static void s5(void) {
+    struct host h = after_s5();
+    check(line_0(&h, 1, 0, 0) && h.words[L * P] == 0, "the fourth empties 1's line");
+}
+
+static void s6(void) {
+    struct host h = after_s5();
+    writes(&h, 0, 0, 9, NOTHING);
+    check(line_0(&h, 0, 4, 1), "marked");
+}
+
+static void s7(void) {
+    struct host h = after_s3();
+    struct cycles both = {P, P, 0};
+    reads(&h, 0, 32, 0, both);
+    check(h.memory[0] == 7 && h.blocks[0] == 8, "written back, block 8 in its place");
+}
+
+static void s8(void) {
+    struct host h = after_s1();
+    reads(&h, 0, 32, 0, FETCH);
+}
+
+static void s9(void) {
+    struct host h = fresh(SETUP);
+    for (uint32_t i = 0; i < 3; i++) reads(&h, i, 0, 0, FETCH);
+    writes(&h, 1, 0, 5, UPDATE);
+    check(line_0(&h, 0, 3, 0) && line_0(&h, 1, 4, 0) && line_0(&h, 2, 4, 0), "0 pays");
+}
+
+static void s10(void) {
+    struct host h = fresh(ONE_WORD);
+    struct cycles fetch = {1, 0, 0};
+    reads(&h, 0, 0, 0, fetch);
+    reads(&h, 1, 0, 0, fetch);
+    writes(&h, 0, 0, 5, UPDATE);
+    check(line_0(&h, 0, 1, 0) && line_0(&h, 1, 0, 0), "the other line empties");
+}
+
+static void s11(void) {
+    struct host h = after_s3(), before = h;
+    cuzkelor_tables tables = tables_of(&h);
+    cuzkelor_request none;
+    uint32_t value;
+    cuzkelor_run_answer answer = cuzkelor_run_requests(SETUP, &tables, &h.account, &none, 0, &value, 0);
+    check(answer.refusal == 0 && answer.taken == 0 && answer.place == 0, "0 taken");
+    check(memcmp(&h, &before, sizeof h) == 0, "nothing changes");
+}
+
+static void s12(void) {
+    struct host h = fresh(SETUP), before;
+    cuzkelor_account nearly = {999999, 4 * 999999, 4 * 999999, 999999};
+    uint32_t value = GARBAGE;
+    h.account = nearly;
+    reads(&h, 0, 0, 0, FETCH);
+    before = h;
+    cuzkelor_run_answer answer = try_one(&h, cuzkelor_read(0, cuzkelor_make_variable(0)), &value);
+    check(answer.refusal == CUZKELOR_ACCOUNT_FULL && answer.taken == 0 && answer.place == 0, "22");
+    check(value == GARBAGE && memcmp(&h, &before, sizeof h) == 0, "nothing changes");
+}
+
+static void limits(void) {
+    struct host h = fresh(SETUP);
+    uint32_t value;
+    reads(&h, 0, 255, 0, FETCH);
+    cuzkelor_run_answer answer = try_one(&h, cuzkelor_read(0, cuzkelor_make_variable(256)), &value);
+    check(answer.refusal == CUZKELOR_NO_SUCH_VARIABLE, "variable 256");
+    cuzkelor_tables tables = tables_of(&h);
+    cuzkelor_setup nine = {9, L, P, M};
+    check(cuzkelor_start_tables(nine, &tables) == CUZKELOR_SETUP_OUT_OF_RANGE, "nine processors");
+    tables.marks.length--;
+    check(cuzkelor_start_tables(SETUP, &tables) == CUZKELOR_WRONG_LENGTH, "marks too short");
+}
+
+static void printed_trace(void) {
+    static const char trace[] = "0 00000000\n0 01000000\n1 00000000\n1 4\n";
+    struct host h = fresh(SETUP);
+    cuzkelor_tables tables = tables_of(&h);
+    cuzkelor_report report = cuzkelor_count_din(&tables, trace, sizeof trace - 1);
+    cuzkelor_account account = {4, 8, 0, 2};
+    check(report.refusal == 0 && report.line == 0, "ended 0 0");
+    check(memcmp(&report.account, &account, sizeof account) == 0, "the account");
+    report = cuzkelor_count_din(&tables, "0 0\n3 0\n", 8);
+    check(report.refusal == CUZKELOR_UNKNOWN_LABEL && report.line == 2, "a label above 2");
+    tables.memory.length--;
+    report = cuzkelor_count_din(&tables, "x", 1);
+    check(report.refusal == CUZKELOR_WRONG_LENGTH && report.line == 0, "memory too short");
+}
+
+static void a_look(void) {
+    struct host h = after_s3();
+    cuzkelor_tables tables = tables_of(&h);
+    reads(&h, 2, 45, 0, FETCH);
+    cuzkelor_block block = cuzkelor_block_of(SETUP, cuzkelor_make_variable(45));
+    cuzkelor_part part = cuzkelor_look(SETUP, &tables, 2, block);
+    check(block.number == 11 && part.length == P, "block 11 is held by 2");
+    check(part.at == h.words + (2 * L + 3) * P, "in line 3");
+    check(cuzkelor_look(SETUP, &tables, 1, block).length == 0, "not by 1");
+    part = cuzkelor_look(SETUP, &tables, 0, cuzkelor_make_block(0));
+    check(part.length == P && part.at[0] == 7, "block 0 shows the word written");
+}
+
+static void a_schedule(void) {
+    uint32_t blocks[SLOTS], held[SLOTS], marks[SLOTS];
+    cuzkelor_rival rival = {lent(blocks, SLOTS), lent(held, SLOTS), lent(marks, SLOTS)};
+    cuzkelor_block zero = cuzkelor_make_block(0), nine = cuzkelor_make_block(9);
+    cuzkelor_variable v = cuzkelor_make_variable(0);
+    cuzkelor_request requests[] = {cuzkelor_read(0, v), cuzkelor_write(1, v, 5), cuzkelor_write(1, v, 6)};
+    cuzkelor_entry entries[] = {cuzkelor_fetch(0, zero),          cuzkelor_complete(),     cuzkelor_fetch(1, zero),
+                                cuzkelor_complete_by_broadcast(), cuzkelor_drop(0, zero),  cuzkelor_complete(),
+                                cuzkelor_fetch(2, nine),          cuzkelor_drop(1, zero)};
+    memset(blocks, 0x77, sizeof blocks);
+    memset(held, 0x77, sizeof held);
+    memset(marks, 0x77, sizeof marks);
+    cuzkelor_price_answer answer = cuzkelor_price_schedule(SETUP, &rival, entries, 7, requests, 3);
+    check(answer.refusal == 0 && answer.place == 0 && answer.cost == 4 + 0 + 4 + 1 + 0 + 0 + 4, "the cost");
+    check(held[0] == 0 && held[L] == 1 && marks[L] == 1, "1 holds block 0, marked");
+    check(held[2 * L + 1] == 1 && blocks[2 * L + 1] == 9 && marks[2 * L + 1] == 0, "2 holds block 9");
+    answer = cuzkelor_price_schedule(SETUP, &rival, entries, 8, requests, 3);
+    check(answer.refusal == CUZKELOR_DROP_OF_MARKED && answer.place == 7 && answer.cost == 0, "25 at 7");
+    check(held[L] == 0 && blocks[2 * L + 1] == 0, "tables all 0");
+    entries[7] = cuzkelor_write_back(1, zero);
+    answer = cuzkelor_price_schedule(SETUP, &rival, entries, 8, requests, 3);
+    check(answer.refusal == 0 && answer.cost == 17 && marks[L] == 0, "written back");
+}
+
+/* What is not refused and what is, with out-parameters that hold garbage before the call. */
+static void out_parameters(void) {
+    struct host h = fresh(SETUP);
+    cuzkelor_setup bad = {0, L, P, M};
+    cuzkelor_tables t = tables_of(&h);
+    uint32_t numbers[4] = {0, 0, 0, 0}, values[1], cost = GARBAGE, line = GARBAGE;
+    size_t taken = GARBAGE, place = GARBAGE;
+    uint32_t refusal = cuzkelor_run(bad.processors, L, P, M, h.blocks, SLOTS, h.counters, SLOTS, h.marks, SLOTS,
+                                    h.words, SLOTS * P, h.memory, M * P, &h.account.requests, &h.account.fetch,
+                                    &h.account.write_back, &h.account.update, numbers, 4, values, 1, &taken, &place);
+    check(refusal == 1 && taken == 0 && place == 0, "a run refused at once");
+    place = GARBAGE;
+    refusal = cuzkelor_price(bad.processors, L, P, M, h.blocks, SLOTS, h.counters, SLOTS, h.marks, SLOTS, numbers, 3,
+                             numbers, 4, &place, &cost);
+    check(refusal == 1 && place == 0 && cost == 0, "a schedule refused at once");
+    memset(&h.account, 0x77, sizeof h.account);
+    refusal = cuzkelor_count_trace((const uint8_t *)"", 0, t.blocks.at, 0, t.counters.at, 0, t.marks.at, 0,
+                                   t.words.at, 0, t.memory.at, 0, &h.account.requests, &h.account.fetch,
+                                   &h.account.write_back, &h.account.update, &line);
+    check(refusal == 2 && line == 0, "a trace refused at once");
+    check(h.account.requests + h.account.fetch + h.account.write_back + h.account.update == 0, "its account");
+}
+
+int main(void) {
+    static const struct {
+        const char *name;
+        void (*play)(void);
+    } cases[] = {{"S1", s1},
+                 {"S2", s2},
+                 {"S3", s3},
+                 {"S4", s4},
+                 {"S5", s5},
+                 {"S6", s6},
+                 {"S7", s7},
+                 {"S8", s8},
+                 {"S9", s9},
+                 {"S10", s10},
+                 {"S11", s11},
+                 {"S12", s12},
+                 {"limits", limits},
+                 {"printed trace", printed_trace},
+                 {"a look", a_look},
+                 {"a schedule", a_schedule},
+                 {"out-parameters", out_parameters}};
+    for (size_t k = 0; k < sizeof cases / sizeof cases[0]; k++) {
+        cases[k].play();
+        passed(cases[k].name);
+    }
+    printf("all passed\n");
+    return 0;
+}

@@ -1,0 +1,145 @@
+//! Requests per second through `run`, beside a plain engine in the same process. Both serve the
+//! same lists in turn; the least time of each counts.
+
+#[path = "../../tests/clock/mod.rs"]
+mod clock;
+mod plain;
+
+use cuzkelor::{run, Account, Request, Requests, Setup, Tables, Variable};
+use std::time::Duration;
+
+const BAR: f64 = 1.25;
+
+const SMALL: Setup = cuzkelor::TRACE_SETUP;
+
+const LARGE: Setup = Setup {
+    processors: 8,
+    lines: 64,
+    block_words: 16,
+    block_count: 256,
+};
+
+/// A xorshift64* generator.
+struct Draw(u64);
+
+impl Draw {
+    fn below(&mut self, end: u32) -> u32 {
+        self.0 ^= self.0 >> 12;
+        self.0 ^= self.0 << 25;
+        self.0 ^= self.0 >> 27;
+        let word = self.0.wrapping_mul(0x2545_f491_4f6c_dd1d) >> 32;
+        ((word * u64::from(end)) >> 32) as u32
+    }
+}
+
+/// A request: four of ten go to a shared eighth of the variables, the rest to the processor's own
+/// part; one of three writes.
+fn request(draw: &mut Draw, setup: Setup) -> Request {
+    let variables = setup.block_count * setup.block_words;
+    let shared = variables / 8;
+    let own = (variables - shared) / setup.processors;
+    let processor = draw.below(setup.processors);
+    let variable = Variable(match draw.below(10) < 4 {
+        true => draw.below(shared),
+        false => shared + processor * own + draw.below(own),
+    });
+    match draw.below(3) {
+        0 => Request::write(processor, variable, draw.below(u32::MAX)),
+        _ => Request::read(processor, variable),
+    }
+}
+
+/// What a list of runs leaves behind.
+#[derive(PartialEq, Debug)]
+struct Left {
+    tables: Tables,
+    account: Account,
+    values: Vec<u32>,
+}
+
+impl Left {
+    fn fresh(setup: Setup, run_length: usize) -> Left {
+        Left {
+            tables: Tables::started(setup).expect("in range"),
+            account: Account::default(),
+            values: vec![0; run_length],
+        }
+    }
+}
+
+fn through_archive(setup: Setup, lists: &[Requests], left: &mut Left) {
+    for list in lists {
+        let answer = run(
+            setup,
+            &mut left.tables,
+            &mut left.account,
+            list,
+            &mut left.values,
+        );
+        assert_eq!(answer.taken, list.len());
+    }
+}
+
+fn through_plain(setup: Setup, lists: &[Requests], left: &mut Left) {
+    for list in lists {
+        let answer = plain::run(
+            setup,
+            &mut left.tables,
+            &mut left.account,
+            list.numbers(),
+            &mut left.values,
+        );
+        assert_eq!(answer.0, list.len());
+    }
+}
+
+type Engine = fn(Setup, &[Requests], &mut Left);
+
+fn timed(engine: Engine, setup: Setup, lists: &[Requests]) -> (Duration, Left) {
+    let mut left = Left::fresh(setup, lists[0].len());
+    let ((), time) = clock::timed(|| engine(setup, lists, &mut left));
+    (time, left)
+}
+
+/// The least times of both engines, in turn.
+fn least(setup: Setup, lists: &[Requests], times: u32) -> (Duration, Duration) {
+    let mut least = (Duration::MAX, Duration::MAX);
+    for _ in 0..times {
+        let (archive, left) = timed(through_archive, setup, lists);
+        let (plain, same) = timed(through_plain, setup, lists);
+        assert_eq!(left, same, "both engines leave the same behind");
+        least = (least.0.min(archive), least.1.min(plain));
+    }
+    least
+}
+
+fn measure(name: &str, setup: Setup, requests: usize, run_length: usize, times: u32) -> f64 {
+    let mut draw = Draw(1988);
+    let lists: Vec<Requests> = (0..requests / run_length)
+        .map(|_| (0..run_length).map(|_| request(&mut draw, setup)).collect())
+        .collect();
+    let (archive, plain) = least(setup, &lists, times);
+    let rate = |time: Duration| requests as f64 / time.as_secs_f64() / 1e6;
+    let ratio = archive.as_secs_f64() / plain.as_secs_f64();
+    println!(
+        "{name}, runs of {run_length:>7}: archive {:8.3} million requests/s, plain {:8.3}, ratio {ratio:.2}",
+        rate(archive),
+        rate(plain)
+    );
+    ratio
+}
+
+fn main() {
+    let times = std::env::args()
+        .nth(1)
+        .map_or(15, |text| text.parse().expect("how often"));
+    println!("least time of {times} each, in turn");
+    let ratio = measure("N 4 L 8 p 4 M 64", SMALL, 1_000_000, 1_000_000, times);
+    measure("N 4 L 8 p 4 M 64", SMALL, 1_000_000, 1_000, times);
+    measure("N 4 L 8 p 4 M 64", SMALL, 100_000, 1, times);
+    measure("N 8 L 64 p 16 M 256", LARGE, 1_000_000, 1_000_000, times);
+    measure("N 8 L 64 p 16 M 256", LARGE, 1_000_000, 1_000, times);
+    measure("N 8 L 64 p 16 M 256", LARGE, 5_000, 1, times);
+    let verdict = if ratio <= BAR { "met" } else { "missed" };
+    println!("ratio {ratio:.2} at runs of 1,000,000 on the trace's setup; bar {BAR}: {verdict}");
+}

@@ -1,0 +1,115 @@
+//! The claim against the cheapest schedules there are, found by search on tiny setups.
+
+use crate::draw::Draw;
+use crate::model::{Ask, Board, Caches, Move, Rival};
+use crate::rivals::{accepted_cost, engine_moves, Closeness};
+use std::collections::{BTreeMap, BTreeSet};
+
+/// A rival's position: its copies, and the requests completed.
+type Position = (BTreeMap<(u32, u32), bool>, usize);
+
+/// The least cost known of each position, and the entry and position that it comes from.
+type Best = BTreeMap<Position, (u64, Option<(Move, Position)>)>;
+
+fn entries(board: Board) -> Vec<Move> {
+    let mut entries = vec![Move::Complete];
+    for i in 0..board.n {
+        for block in 0..board.m {
+            entries.push(Move::Fetch(i, block));
+            entries.push(Move::WriteBack(i, block));
+            entries.push(Move::Drop(i, block));
+        }
+    }
+    entries
+}
+
+/// The positions that one legal entry reaches, with their costs.
+fn reached(board: Board, from: &Position, asks: &[Ask]) -> Vec<(u64, Move, Position)> {
+    let (copies, done) = from;
+    let mut reached = Vec::new();
+    for entry in entries(board) {
+        let mut rival = Rival {
+            board,
+            copies: copies.clone(),
+        };
+        if let Ok(cost) = rival.play(entry, asks.get(*done)) {
+            let done = done + usize::from(entry.completes());
+            reached.push((cost, entry, (rival.copies, done)));
+        }
+    }
+    reached
+}
+
+/// A cheapest schedule: positions are closed in the order of their cost.
+fn cheapest(board: Board, asks: &[Ask]) -> Vec<Move> {
+    let start: Position = (BTreeMap::new(), 0);
+    let mut open: BTreeSet<(u64, Position)> = [(0, start.clone())].into();
+    let mut best: Best = [(start, (0, None))].into();
+    let end = loop {
+        let (cost, position) = open
+            .pop_first()
+            .expect("the engine's own actions are legal");
+        if position.1 == asks.len() {
+            break position;
+        }
+        for (step, entry, next) in reached(board, &position, asks) {
+            let known = best.get(&next).map_or(u64::MAX, |found| found.0);
+            if cost + step < known {
+                open.remove(&(known, next.clone()));
+                open.insert((cost + step, next.clone()));
+                best.insert(next, (cost + step, Some((entry, position.clone()))));
+            }
+        }
+    };
+    way_to(&best, end)
+}
+
+fn way_to(best: &Best, end: Position) -> Vec<Move> {
+    let mut moves = Vec::new();
+    let mut at = &end;
+    while let Some((entry, before)) = &best[at].1 {
+        moves.push(*entry);
+        at = before;
+    }
+    moves.reverse();
+    moves
+}
+
+fn bill(board: Board, asks: &[Ask]) -> u64 {
+    let mut caches = Caches::fresh(board);
+    asks.iter().map(|ask| caches.serve(ask).1.cycles()).sum()
+}
+
+#[test]
+fn cheapest_schedules() {
+    let mut draw = Draw::for_test("cheapest schedules");
+    let mut closeness = Closeness::default();
+    for _ in 0..300 {
+        let board = Board {
+            n: draw.within(2, 3),
+            l: draw.within(1, 2),
+            p: draw.within(1, 3),
+            m: draw.within(1, 3),
+        };
+        let count = draw.index(13);
+        let asks = draw.asks(board, count);
+        let moves = cheapest(board, &asks);
+        let cost = accepted_cost(&mut draw, board, &moves, &asks);
+        closeness.hold(bill(board, &asks), cost);
+    }
+    closeness.print("cheapest schedules");
+}
+
+/// The engine's own actions are a legal schedule at its own bill.
+#[test]
+fn engine_as_a_rival() {
+    let mut draw = Draw::for_test("engine as a rival");
+    for _ in 0..1_000 {
+        let board = draw.board();
+        let count = draw.index(120);
+        let asks = draw.asks(board, count);
+        let moves = engine_moves(board, &asks);
+        let cost = accepted_cost(&mut draw, board, &moves, &asks);
+        assert_eq!(cost, bill(board, &asks), "on {board:?} for {asks:?}");
+    }
+}

@@ -1,0 +1,136 @@
+//! From the model's words to what the archive is lent.
+
+use crate::draw::Draw;
+use crate::model::{sizes, Ask, Board, Ledger, Move};
+use cuzkelor::{
+    Account, Block, Entry, Refusal, Request, Requests, RivalTables, Schedule, Setup, Tables,
+    Variable,
+};
+
+/// The refusal number, 0 for none.
+pub fn number(refusal: Option<Refusal>) -> u32 {
+    refusal.map_or(0, Refusal::number)
+}
+
+pub fn setup(board: Board) -> Setup {
+    Setup {
+        processors: board.n,
+        lines: board.l,
+        block_words: board.p,
+        block_count: board.m,
+    }
+}
+
+/// Tables of the right lengths that hold anything.
+pub fn garbage(draw: &mut Draw, board: Board) -> Tables {
+    let (lines, words, memory) = sizes(board);
+    Tables {
+        blocks: draw.words(lines),
+        counters: draw.words(lines),
+        marks: draw.words(lines),
+        words: draw.words(words),
+        memory: draw.words(memory),
+    }
+}
+
+pub fn rival_garbage(draw: &mut Draw, board: Board) -> RivalTables {
+    let (lines, _, _) = sizes(board);
+    RivalTables {
+        blocks: draw.words(lines),
+        held: draw.words(lines),
+        marks: draw.words(lines),
+    }
+}
+
+/// Gives one table another length.
+pub fn wrong_length(draw: &mut Draw, tables: &mut Tables) {
+    let table = match draw.below(5) {
+        0 => &mut tables.blocks,
+        1 => &mut tables.counters,
+        2 => &mut tables.marks,
+        3 => &mut tables.words,
+        _ => &mut tables.memory,
+    };
+    let length = draw.wrong_length(table.len());
+    table.resize(length, 0);
+}
+
+pub fn account(ledger: Ledger) -> Account {
+    let number = |of: u64| u32::try_from(of).expect("an account of 32 bits");
+    Account {
+        requests: number(ledger.requests),
+        fetch: number(ledger.fetch),
+        write_back: number(ledger.write_back),
+        update: number(ledger.update),
+    }
+}
+
+pub fn ledger(account: Account) -> Ledger {
+    Ledger {
+        requests: account.requests.into(),
+        fetch: account.fetch.into(),
+        write_back: account.write_back.into(),
+        update: account.update.into(),
+    }
+}
+
+fn request(ask: &Ask) -> Request {
+    let variable = Variable(ask.variable);
+    match ask.write {
+        Some(value) => Request::write(ask.processor, variable, value),
+        None => Request::read(ask.processor, variable),
+    }
+}
+
+pub fn requests(asks: &[Ask]) -> Requests {
+    asks.iter().map(request).collect()
+}
+
+/// The same requests in other numbers: any operation but 1 reads, whatever its value is, and fewer
+/// than four numbers at the end name no request.
+pub fn odd_requests(draw: &mut Draw, asks: &[Ask]) -> Requests {
+    let mut numbers = Vec::new();
+    for ask in asks {
+        let operation = draw.pick(&[0, 2, 3, u32::MAX]);
+        let (operation, value) = match ask.write {
+            Some(value) => (1, value),
+            None => (operation, draw.word()),
+        };
+        numbers.extend([ask.processor, operation, ask.variable, value]);
+    }
+    let rest = draw.index(4);
+    numbers.extend(draw.words(rest));
+    Requests::from_numbers(numbers)
+}
+
+fn entry(entry: &Move) -> Entry {
+    match *entry {
+        Move::Fetch(i, block) => Entry::Fetch(i, Block(block)),
+        Move::WriteBack(i, block) => Entry::WriteBack(i, Block(block)),
+        Move::Drop(i, block) => Entry::Drop(i, Block(block)),
+        Move::Complete => Entry::Complete,
+        Move::Broadcast => Entry::CompleteByBroadcast,
+    }
+}
+
+pub fn schedule(moves: &[Move]) -> Schedule {
+    moves.iter().map(entry).collect()
+}
+
+/// The same schedule in other numbers: any kind above 3 completes by broadcast, a completion names
+/// neither processor nor block, and fewer than three numbers at the end name no entry.
+pub fn odd_schedule(draw: &mut Draw, moves: &[Move]) -> Schedule {
+    let mut numbers = Vec::new();
+    for entry in moves {
+        numbers.extend(match *entry {
+            Move::Fetch(i, block) => [0, i, block],
+            Move::WriteBack(i, block) => [1, i, block],
+            Move::Drop(i, block) => [2, i, block],
+            Move::Complete => [3, draw.word(), draw.word()],
+            Move::Broadcast => [draw.pick(&[4, 5, u32::MAX]), draw.word(), draw.word()],
+        });
+    }
+    let rest = draw.index(3);
+    numbers.extend(draw.words(rest));
+    Schedule::from_numbers(numbers)
+}

@@ -1,0 +1,15 @@
+//! The archive beside a model coded separately from the document: random lists of runs, schedules
+//! and traces, every answer and every lent buffer compared, and the document's own cases.
+
+mod bound;
+mod damage;
+mod draw;
+mod lend;
+mod looks;
+mod model;
+mod rivals;
+mod runs;
+mod schedules;
+mod sessions;
+mod tally;
+mod traces;

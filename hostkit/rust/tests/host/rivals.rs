@@ -1,0 +1,241 @@
+//! Legal schedules of several styles for a list of requests.
+
+use crate::draw::Draw;
+use crate::lend;
+use crate::model::{price, rival_shown, Ask, Board, Caches, Move, Rival};
+use cuzkelor::PriceAnswer;
+
+/// What a rival does with the other copies of a block that is written.
+#[derive(Clone, Copy)]
+enum Others {
+    Keep,
+    Drop,
+    Coin,
+    /// Drops a copy if updating it until its next use costs more than a fetch.
+    LookAhead,
+}
+
+struct Composer<'a> {
+    draw: &'a mut Draw,
+    asks: &'a [Ask],
+    done: usize,
+    rival: Rival,
+    moves: Vec<Move>,
+    others: Others,
+    broadcasts: u32,
+    /// How often, in percent, an entry comes that no request needs.
+    idle: u32,
+}
+
+impl Composer<'_> {
+    fn push(&mut self, entry: Move) {
+        let played = self.rival.play(entry, self.asks.get(self.done));
+        played.expect("a legal entry");
+        self.done += usize::from(entry.completes());
+        self.moves.push(entry);
+    }
+
+    fn clear(&mut self, i: u32, block: u32) {
+        if self.rival.copies[&(i, block)] {
+            self.push(Move::WriteBack(i, block));
+        }
+        self.push(Move::Drop(i, block));
+    }
+
+    fn obtain(&mut self, i: u32, block: u32) {
+        if self.rival.holds(i, block) {
+            return;
+        }
+        if let Some(old) = self.rival.in_the_way(i, block) {
+            self.clear(i, old);
+        }
+        self.push(Move::Fetch(i, block));
+    }
+
+    /// Whether updates of j's copy until its next use are more than p.
+    fn worth_dropping(&self, j: u32, block: u32) -> bool {
+        let uses = |ask: &&Ask| self.rival.board.home(ask.variable).0 == block;
+        let mut updates = 0;
+        for ask in self.asks[self.done..].iter().filter(uses) {
+            if ask.processor == j {
+                return updates > self.rival.board.p;
+            }
+            updates += u32::from(ask.write.is_some());
+        }
+        true
+    }
+
+    fn drops(&mut self, j: u32, block: u32) -> bool {
+        match self.others {
+            Others::Keep => false,
+            Others::Drop => true,
+            Others::Coin => self.draw.chance(50),
+            Others::LookAhead => self.worth_dropping(j, block),
+        }
+    }
+
+    fn thin_out(&mut self, i: u32, block: u32) {
+        for j in self.rival.holders(block) {
+            if j != i && self.drops(j, block) {
+                self.clear(j, block);
+            }
+        }
+    }
+
+    /// An entry that no request needs, if the drawn one is legal.
+    fn idle_entry(&mut self) {
+        let i = self.draw.below(self.rival.board.n);
+        let block = self.draw.below(self.rival.board.m);
+        let held = self.rival.copies.keys().copied().collect::<Vec<_>>();
+        let (j, old) = match held.is_empty() {
+            true => (i, block),
+            false => self.draw.pick(&held),
+        };
+        let entry = match self.draw.below(3) {
+            0 => Move::Fetch(i, block),
+            1 => Move::WriteBack(j, old),
+            _ => Move::Drop(j, old),
+        };
+        if self.rival.clone().play(entry, None).is_ok() {
+            self.push(entry);
+        }
+    }
+
+    fn idle_entries(&mut self) {
+        while self.draw.chance(self.idle) {
+            self.idle_entry();
+        }
+    }
+
+    fn serve(&mut self, ask: &Ask) {
+        let (block, _) = self.rival.board.home(ask.variable);
+        self.idle_entries();
+        self.obtain(ask.processor, block);
+        if ask.write.is_none() {
+            return self.push(Move::Complete);
+        }
+        self.thin_out(ask.processor, block);
+        match self.draw.chance(self.broadcasts) {
+            true => self.push(Move::Broadcast),
+            false => self.push(Move::Complete),
+        }
+    }
+}
+
+fn composed(draw: &mut Draw, board: Board, asks: &[Ask], others: Others, lean: bool) -> Vec<Move> {
+    let (broadcasts, idle) = match lean {
+        true => (0, 0),
+        false => (draw.pick(&[0, 20, 100]), draw.pick(&[0, 10, 50])),
+    };
+    let mut composer = Composer {
+        draw,
+        asks,
+        done: 0,
+        rival: Rival::empty(board),
+        moves: Vec::new(),
+        others,
+        broadcasts,
+        idle,
+    };
+    for ask in asks {
+        composer.serve(ask);
+    }
+    composer.idle_entries();
+    composer.moves
+}
+
+/// One legal schedule of any style.
+pub fn any_legal(draw: &mut Draw, board: Board, asks: &[Ask]) -> Vec<Move> {
+    let all = [Others::Keep, Others::Drop, Others::Coin, Others::LookAhead];
+    let others = draw.pick(&all);
+    let lean = draw.chance(30);
+    composed(draw, board, asks, others, lean)
+}
+
+/// Legal schedules that waste nothing in three styles, and one of any style.
+pub fn some_legal(draw: &mut Draw, board: Board, asks: &[Ask]) -> Vec<Vec<Move>> {
+    vec![
+        composed(draw, board, asks, Others::Keep, true),
+        composed(draw, board, asks, Others::Drop, true),
+        composed(draw, board, asks, Others::LookAhead, true),
+        any_legal(draw, board, asks),
+    ]
+}
+
+/// The engine's own actions as a schedule.
+pub fn engine_moves(board: Board, asks: &[Ask]) -> Vec<Move> {
+    let mut caches = Caches::fresh(board);
+    let mut moves = Vec::new();
+    for ask in asks {
+        let (block, _) = board.home(ask.variable);
+        let before = caches.clone();
+        caches.serve(ask);
+        let gone = |key: &&(u32, u32)| !caches.copies.contains_key(key);
+        let mut left = Vec::new();
+        for &(i, old) in before.copies.keys().filter(gone) {
+            if old == block {
+                left.push(Move::Drop(i, old));
+                continue;
+            }
+            if before.copies[&(i, old)].dirty {
+                moves.push(Move::WriteBack(i, old));
+            }
+            moves.push(Move::Drop(i, old));
+        }
+        if !before.copies.contains_key(&(ask.processor, block)) {
+            moves.push(Move::Fetch(ask.processor, block));
+        }
+        moves.push(Move::Complete);
+        moves.append(&mut left);
+    }
+    moves
+}
+
+/// The cost at which the archive accepts a legal schedule; the model has to agree, also on the
+/// rival's last copies.
+pub fn accepted_cost(draw: &mut Draw, board: Board, moves: &[Move], asks: &[Ask]) -> u64 {
+    let (cost, rival) = price(board, moves, asks).expect("legal");
+    let mut tables = lend::rival_garbage(draw, board);
+    let answer = cuzkelor::price(
+        lend::setup(board),
+        &mut tables,
+        &lend::schedule(moves),
+        &lend::requests(asks),
+    );
+    let accepted = PriceAnswer::Accepted {
+        cost: cost.try_into().expect("a cost of 32 bits"),
+    };
+    assert_eq!(answer, accepted, "on {board:?} for {asks:?}: {moves:?}");
+    assert_eq!(tables, rival_shown(&rival), "the rival's last copies");
+    cost
+}
+
+/// How close legal schedules came to half of what the engine spends.
+#[derive(Default)]
+pub struct Closeness {
+    compared: usize,
+    spent: u64,
+    cost: u64,
+}
+
+impl Closeness {
+    /// Asserts the claim for one schedule.
+    pub fn hold(&mut self, spent: u64, cost: u64) {
+        assert!(
+            2 * cost >= spent,
+            "a schedule at {cost}, the engine at {spent}"
+        );
+        self.compared += 1;
+        if spent * self.cost > self.spent * cost || self.cost == 0 {
+            (self.spent, self.cost) = (spent, cost);
+        }
+    }
+
+    pub fn print(&self, name: &str) {
+        let (compared, spent, cost) = (self.compared, self.spent, self.cost);
+        println!(
+            "{name}: twice the cost of {compared} legal schedules covers the engine's bill; \
+             closest {cost} against {spent}"
+        );
+    }
+}

@@ -1,0 +1,319 @@
+//! Random lists of runs. Each call is compared with what the model says of whatever was lent: the
+//! answer, the five tables, the account and the values.
+
+use crate::draw::Draw;
+use crate::lend;
+use crate::model::{read, shown, sizes, Ask, Board, Caches, Ledger, Outcome};
+use crate::rivals::{self, Closeness};
+use crate::tally::Tally;
+use cuzkelor::{Account, Requests, Tables};
+use std::collections::BTreeMap;
+
+/// Whether condition 2 meets tables on a setup in range.
+pub fn wrong_lengths(board: Board, tables: &Tables) -> bool {
+    let (lines, words, memory) = sizes(board);
+    let per_line = [&tables.blocks, &tables.counters, &tables.marks];
+    per_line.iter().any(|table| table.len() != lines)
+        || tables.words.len() != words
+        || tables.memory.len() != memory
+}
+
+/// What is lent to a run.
+#[derive(Clone, Debug, PartialEq)]
+pub struct Lent {
+    pub tables: Tables,
+    pub account: Account,
+    pub values: Vec<u32>,
+}
+
+/// The facts that a run starts from, or its refusal at once.
+fn begin(board: Board, lent: &Lent, count: usize) -> Result<Caches, u32> {
+    if !board.in_range() {
+        return Err(1);
+    }
+    if wrong_lengths(board, &lent.tables) || lent.values.len() != count {
+        return Err(2);
+    }
+    let caches = read(board, &lent.tables).ok_or(20u32)?;
+    if lend::ledger(lent.account).impossible(board) {
+        return Err(21);
+    }
+    Ok(caches)
+}
+
+/// What a run has to answer and to leave behind, whatever came in.
+fn expected(board: Board, lent: &Lent, asks: &[Ask]) -> (Outcome, Lent) {
+    let mut after = lent.clone();
+    let outcome = match begin(board, lent, asks.len()) {
+        Err(refusal) => Outcome::at_once(refusal),
+        Ok(mut caches) => {
+            let mut ledger = lend::ledger(lent.account);
+            let outcome = caches.run(&mut ledger, asks, &mut after.values);
+            after.tables = shown(&caches);
+            after.account = lend::account(ledger);
+            outcome
+        }
+    };
+    (outcome, after)
+}
+
+/// Runs the archive on what is lent, compares everything, and gives the common outcome.
+pub fn compared(board: Board, lent: &mut Lent, asks: &[Ask], requests: &Requests) -> Outcome {
+    let (outcome, after) = expected(board, lent, asks);
+    let answer = cuzkelor::run(
+        lend::setup(board),
+        &mut lent.tables,
+        &mut lent.account,
+        requests,
+        &mut lent.values,
+    );
+    let answered = Outcome {
+        taken: answer.taken,
+        refusal: lend::number(answer.refusal),
+        place: answer.place,
+    };
+    assert_eq!(answered, outcome, "the answer on {board:?} to {asks:?}");
+    assert_eq!(*lent, after, "what was lent on {board:?} to {asks:?}");
+    outcome
+}
+
+/// The cycles of an account near a limit of 21, or on it.
+fn possible_cycles(draw: &mut Draw, most: u32) -> u32 {
+    match draw.below(4) {
+        0 => 0,
+        1 => most,
+        2 => most - most.min(1),
+        _ => draw.below(most.max(1)),
+    }
+}
+
+fn possible_account(draw: &mut Draw, board: Board, requests: u32) -> Account {
+    let most = requests.saturating_mul(board.p);
+    Account {
+        requests,
+        fetch: possible_cycles(draw, most),
+        write_back: possible_cycles(draw, most),
+        update: possible_cycles(draw, requests),
+    }
+}
+
+/// The account that a list of runs starts with: fresh, near 1,000,000 requests, or far above.
+fn first_account(draw: &mut Draw, board: Board) -> Account {
+    let requests = match draw.below(10) {
+        0 => draw.within(999_900, 1_000_005),
+        1 => draw.within(999_990, 1_000_000),
+        2 => draw.pick(&[1_000_000, 4_000_000, 1 << 31, u32::MAX]),
+        3 => draw.below(1_000_000),
+        _ => return Account::default(),
+    };
+    possible_account(draw, board, requests)
+}
+
+/// An account that 21 meets, often by 1.
+fn impossible_account(draw: &mut Draw, board: Board) -> Account {
+    let requests = match draw.below(3) {
+        0 => 0,
+        1 => draw.below(1_000_001),
+        _ => draw.below(u32::MAX / 16),
+    };
+    let mut account = possible_account(draw, board, requests);
+    let most = requests * board.p;
+    match draw.below(3) {
+        0 => account.fetch = draw.pick(&[most + 1, u32::MAX]),
+        1 => account.write_back = draw.pick(&[most + 1, u32::MAX]),
+        _ => account.update = draw.pick(&[requests + 1, u32::MAX]),
+    }
+    account
+}
+
+/// Gives a table or the values another length.
+fn wrong_length(draw: &mut Draw, lent: &mut Lent) {
+    if draw.chance(80) {
+        return lend::wrong_length(draw, &mut lent.tables);
+    }
+    let length = draw.wrong_length(lent.values.len());
+    lent.values.resize(length, 0);
+}
+
+fn length_of_run(draw: &mut Draw) -> usize {
+    match draw.below(10) {
+        0 => 0,
+        1 => draw.index(400),
+        _ => draw.index(60),
+    }
+}
+
+/// The requests as a list in either of their forms.
+fn listed(draw: &mut Draw, asks: &[Ask]) -> Requests {
+    match draw.chance(50) {
+        true => lend::requests(asks),
+        false => lend::odd_requests(draw, asks),
+    }
+}
+
+/// One list of runs on one setup, from fresh tables.
+struct List {
+    board: Board,
+    tables: Tables,
+    account: Account,
+    first: Account,
+    /// The facts, carried from run to run and never read from the tables.
+    caches: Caches,
+    ledger: Ledger,
+    /// The last value written to each variable.
+    current: BTreeMap<u32, u32>,
+    taken: Vec<Ask>,
+}
+
+impl List {
+    fn start(draw: &mut Draw) -> List {
+        let board = draw.board();
+        let mut tables = lend::garbage(draw, board);
+        cuzkelor::start(lend::setup(board), &mut tables).expect("in range");
+        let caches = Caches::fresh(board);
+        assert_eq!(tables, shown(&caches), "started tables are all 0");
+        let account = first_account(draw, board);
+        List {
+            board,
+            tables,
+            account,
+            first: account,
+            caches,
+            ledger: lend::ledger(account),
+            current: BTreeMap::new(),
+            taken: Vec::new(),
+        }
+    }
+
+    fn lent(&self, draw: &mut Draw, count: usize) -> Lent {
+        Lent {
+            tables: self.tables.clone(),
+            account: self.account,
+            values: draw.words(count),
+        }
+    }
+
+    fn asks(&self, draw: &mut Draw) -> Vec<Ask> {
+        let count = length_of_run(draw);
+        let mut asks = draw.asks(self.board, count);
+        if draw.chance(25) {
+            draw.spoil(self.board, &mut asks);
+        }
+        asks
+    }
+
+    /// A run that goes on from the last one.
+    fn go_on(&mut self, draw: &mut Draw) -> Outcome {
+        let asks = self.asks(draw);
+        let mut lent = self.lent(draw, asks.len());
+        let outcome = compared(self.board, &mut lent, &asks, &listed(draw, &asks));
+        self.last_values(&asks[..outcome.taken], &lent.values);
+        let mut values = lent.values.clone();
+        let carried = self.caches.run(&mut self.ledger, &asks, &mut values);
+        assert_eq!(carried, outcome, "the carried facts give the same outcome");
+        assert_eq!(lent.values, values);
+        assert_eq!(lent.tables, shown(&self.caches));
+        assert_eq!(lend::ledger(lent.account), self.ledger);
+        (self.tables, self.account) = (lent.tables, lent.account);
+        self.taken.extend(&asks[..outcome.taken]);
+        outcome
+    }
+
+    /// Each read supplies the last value written, or 0.
+    fn last_values(&mut self, asks: &[Ask], values: &[u32]) {
+        for (ask, &value) in asks.iter().zip(values) {
+            if let Some(written) = ask.write {
+                self.current.insert(ask.variable, written);
+            }
+            let last = self.current.get(&ask.variable).copied().unwrap_or(0);
+            assert_eq!(value, last, "the last value written, at {ask:?}");
+        }
+    }
+
+    /// A run that is refused at once, by the first of some conditions, and changes nothing.
+    fn refused(&mut self, draw: &mut Draw) -> Outcome {
+        let asks = self.asks(draw);
+        let mut lent = self.lent(draw, asks.len());
+        let mut board = self.board;
+        let causes = draw.pick(&[1, 2, 4, 8, 3, 6, 12, 15]);
+        if causes & 1 != 0 {
+            board = draw.board_out_of_range(self.board);
+        }
+        if causes & 2 != 0 {
+            wrong_length(draw, &mut lent);
+        }
+        if causes & 4 != 0 {
+            lent.tables.counters.fill(self.board.p + 1);
+        }
+        if causes & 8 != 0 {
+            lent.account = impossible_account(draw, self.board);
+        }
+        let before = lent.clone();
+        let outcome = compared(board, &mut lent, &asks, &listed(draw, &asks));
+        assert!(matches!(outcome.refusal, 1 | 2 | 20 | 21));
+        assert_eq!(lent, before, "nothing changes");
+        outcome
+    }
+
+    /// What the account's three cycle counts grew by.
+    fn spent(&self) -> u64 {
+        self.account.total() - self.first.total()
+    }
+
+    /// Twice the cost of every legal schedule is at least what the engine spent.
+    fn bound(&self, draw: &mut Draw, closeness: &mut Closeness) {
+        for moves in rivals::some_legal(draw, self.board, &self.taken) {
+            let cost = rivals::accepted_cost(draw, self.board, &moves, &self.taken);
+            closeness.hold(self.spent(), cost);
+        }
+    }
+}
+
+#[test]
+fn lists_of_runs() {
+    let mut draw = Draw::for_test("lists of runs");
+    let (mut tally, mut closeness) = (Tally::default(), Closeness::default());
+    let (mut lists, mut requests) = (0, 0);
+    while lists < 4_000 {
+        let mut list = List::start(&mut draw);
+        for _ in 0..draw.below(9) {
+            let outcome = match draw.chance(75) {
+                true => list.go_on(&mut draw),
+                false => list.refused(&mut draw),
+            };
+            tally.count(outcome.refusal);
+        }
+        list.bound(&mut draw, &mut closeness);
+        lists += 1;
+        requests += list.taken.len();
+    }
+    println!("lists of runs: {lists} lists, {requests} requests taken");
+    closeness.print("lists of runs");
+    tally.close("lists of runs", &[0, 1, 2, 3, 4, 20, 21, 22]);
+}
+
+#[test]
+fn starting() {
+    let mut draw = Draw::for_test("starting");
+    let mut tally = Tally::default();
+    for _ in 0..4_000 {
+        let mut board = draw.board();
+        let mut tables = lend::garbage(&mut draw, board);
+        if draw.chance(40) {
+            lend::wrong_length(&mut draw, &mut tables);
+        }
+        if draw.chance(30) {
+            board = draw.board_out_of_range(board);
+        }
+        let (refusal, after) = match board.in_range() {
+            false => (1, tables.clone()),
+            true if wrong_lengths(board, &tables) => (2, tables.clone()),
+            true => (0, shown(&Caches::fresh(board))),
+        };
+        let answer = cuzkelor::start(lend::setup(board), &mut tables);
+        assert_eq!(lend::number(answer.err()), refusal, "on {board:?}");
+        assert_eq!(tables, after, "what starting leaves on {board:?}");
+        tally.count(refusal);
+    }
+    tally.close("starting", &[0, 1, 2]);
+}

@@ -1,0 +1,325 @@
+//! Random schedules, legal and not: the answer, the cost and the three tables compared.
+
+use crate::draw::Draw;
+use crate::lend;
+use crate::model::{price, rival_shown, sizes, Ask, Board, Move, Rival};
+use crate::rivals::any_legal;
+use crate::tally::Tally;
+use cuzkelor::{raw, PriceAnswer, Requests, RivalTables, Schedule};
+use std::fmt;
+
+/// What the pricer is asked, whatever came in.
+struct Question {
+    board: Board,
+    moves: Vec<Move>,
+    asks: Vec<Ask>,
+}
+
+/// Its two lists as they are lent.
+type Lists = (Schedule, Requests);
+
+/// An answer with all that a call of the archive writes.
+#[derive(Debug, PartialEq)]
+struct Told {
+    refusal: u32,
+    place: usize,
+    cost: u32,
+    tables: RivalTables,
+}
+
+impl fmt::Display for Question {
+    fn fmt(&self, f: &mut fmt::Formatter<'_>) -> fmt::Result {
+        let some_asks = &self.asks[..self.asks.len().min(100)];
+        let some_moves = &self.moves[..self.moves.len().min(300)];
+        write!(f, "{:?} {some_asks:?} {some_moves:?}", self.board)
+    }
+}
+
+impl Question {
+    fn lists(&self) -> Lists {
+        (lend::schedule(&self.moves), lend::requests(&self.asks))
+    }
+
+    /// The lists in either of their forms.
+    fn either_lists(&self, draw: &mut Draw) -> Lists {
+        if draw.chance(50) {
+            return self.lists();
+        }
+        let schedule = lend::odd_schedule(draw, &self.moves);
+        (schedule, lend::odd_requests(draw, &self.asks))
+    }
+
+    fn refused_at_once(&self, tables: &RivalTables) -> Option<u32> {
+        if !self.board.in_range() {
+            return Some(1);
+        }
+        let (lines, _, _) = sizes(self.board);
+        let lengths = [tables.blocks.len(), tables.held.len(), tables.marks.len()];
+        if lengths != [lines; 3] {
+            return Some(2);
+        }
+        (self.asks.len() > 1_000_000 || self.moves.len() > 4_000_000).then_some(5)
+    }
+
+    fn expected(&self, tables: &RivalTables) -> Told {
+        let mut told = Told {
+            refusal: 0,
+            place: 0,
+            cost: 0,
+            tables: tables.clone(),
+        };
+        if let Some(refusal) = self.refused_at_once(tables) {
+            return Told { refusal, ..told };
+        }
+        match price(self.board, &self.moves, &self.asks) {
+            Ok((cost, rival)) => {
+                told.cost = cost.try_into().expect("a cost of 32 bits");
+                told.tables = rival_shown(&rival);
+            }
+            Err((refusal, place)) => {
+                (told.refusal, told.place) = (refusal, place);
+                told.tables = rival_shown(&Rival::empty(self.board));
+            }
+        }
+        told
+    }
+}
+
+/// Calls the archive itself, with out-parameters that hold anything before.
+fn raw_price(board: Board, tables: RivalTables, lists: &Lists) -> Told {
+    let (entries, numbers) = (lists.0.numbers(), lists.1.numbers());
+    let mut told = Told {
+        refusal: 0,
+        place: 0x5555,
+        cost: 0xaaaa,
+        tables,
+    };
+    // SAFETY: owned buffers with their lengths, apart from each other.
+    told.refusal = unsafe {
+        raw::cuzkelor_price(
+            board.n,
+            board.l,
+            board.p,
+            board.m,
+            told.tables.blocks.as_mut_ptr(),
+            told.tables.blocks.len(),
+            told.tables.held.as_mut_ptr(),
+            told.tables.held.len(),
+            told.tables.marks.as_mut_ptr(),
+            told.tables.marks.len(),
+            entries.as_ptr(),
+            entries.len(),
+            numbers.as_ptr(),
+            numbers.len(),
+            &mut told.place,
+            &mut told.cost,
+        )
+    };
+    told
+}
+
+/// What the safe function says, in the same words.
+fn safe_price(board: Board, mut tables: RivalTables, lists: &Lists) -> Told {
+    let answer = cuzkelor::price(lend::setup(board), &mut tables, &lists.0, &lists.1);
+    let (refusal, place, cost) = match answer {
+        PriceAnswer::Accepted { cost } => (0, 0, cost),
+        PriceAnswer::Refused { refusal, place } => (refusal.number(), place, 0),
+    };
+    Told {
+        refusal,
+        place,
+        cost,
+        tables,
+    }
+}
+
+/// Asks both functions and compares; the common refusal.
+fn compared(question: &Question, tables: RivalTables, lists: &Lists) -> u32 {
+    let expected = question.expected(&tables);
+    let board = question.board;
+    let told = raw_price(board, tables.clone(), lists);
+    assert_eq!(told, expected, "the archive, to {question}");
+    let told = safe_price(board, tables, lists);
+    assert_eq!(told, expected, "the safe function, to {question}");
+    expected.refusal
+}
+
+fn any_entry(draw: &mut Draw, board: Board) -> Move {
+    let i = match draw.chance(90) {
+        true => draw.below(board.n),
+        false => draw.pick(&[board.n, board.n + 1, u32::MAX]),
+    };
+    let block = match draw.chance(90) {
+        true => draw.below(board.m),
+        false => draw.pick(&[board.m, board.m + 1, u32::MAX]),
+    };
+    match draw.below(5) {
+        0 => Move::Fetch(i, block),
+        1 => Move::WriteBack(i, block),
+        2 => Move::Drop(i, block),
+        3 => Move::Complete,
+        _ => Move::Broadcast,
+    }
+}
+
+/// Changes one entry, takes one out, puts one in, or cuts the end off.
+fn mutate(draw: &mut Draw, board: Board, moves: &mut Vec<Move>) {
+    let at = draw.index(moves.len() + 1);
+    let entry = any_entry(draw, board);
+    match draw.below(5) {
+        0 => moves.truncate(at),
+        1 if at < moves.len() => moves[at] = entry,
+        2 if at < moves.len() => {
+            moves.remove(at);
+        }
+        3 if at < moves.len() && moves[at].completes() => moves[at] = Move::Broadcast,
+        _ => moves.insert(at, entry),
+    }
+}
+
+fn question(draw: &mut Draw) -> Question {
+    let board = match draw.chance(50) {
+        true => draw.tiny_board(),
+        false => draw.board(),
+    };
+    let count = draw.index(40);
+    let mut asks = draw.asks(board, count);
+    let mut moves = any_legal(draw, board, &asks);
+    if draw.chance(60) {
+        for _ in 0..draw.within(1, 3) {
+            mutate(draw, board, &mut moves);
+        }
+    }
+    if draw.chance(15) {
+        draw.spoil(board, &mut asks);
+    }
+    if draw.chance(5) {
+        moves = (0..draw.below(6)).map(|_| any_entry(draw, board)).collect();
+    }
+    Question { board, moves, asks }
+}
+
+fn disturb_lengths(draw: &mut Draw, tables: &mut RivalTables) {
+    let table = match draw.below(3) {
+        0 => &mut tables.blocks,
+        1 => &mut tables.held,
+        _ => &mut tables.marks,
+    };
+    let length = draw.wrong_length(table.len());
+    table.resize(length, 3);
+}
+
+#[test]
+fn random_schedules() {
+    let mut draw = Draw::for_test("random schedules");
+    let mut tally = Tally::default();
+    for _ in 0..30_000 {
+        let mut question = question(&mut draw);
+        let mut tables = lend::rival_garbage(&mut draw, question.board);
+        if draw.chance(3) {
+            disturb_lengths(&mut draw, &mut tables);
+        }
+        if draw.chance(3) {
+            question.board = draw.board_out_of_range(question.board);
+        }
+        let lists = question.either_lists(&mut draw);
+        tally.count(compared(&question, tables, &lists));
+    }
+    too_many(&mut draw, &mut tally);
+    let can_occur = [0, 1, 2, 3, 4, 5, 8, 9, 23, 24, 25, 26, 27, 28];
+    tally.close("random schedules", &can_occur);
+}
+
+/// Lists over the pricer's limits: 1 and 2 come before 5, and 5 before anything in the lists.
+fn too_many(draw: &mut Draw, tally: &mut Tally) {
+    let ask = Ask {
+        processor: 9,
+        variable: 0,
+        write: None,
+    };
+    for (requests, entries) in [(1_000_001, 0), (0, 4_000_001), (1_000_001, 4_000_001)] {
+        let mut question = Question {
+            board: draw.board(),
+            moves: vec![Move::Drop(9, 999); entries],
+            asks: vec![ask; requests],
+        };
+        let lists = question.lists();
+        let mut tables = lend::rival_garbage(draw, question.board);
+        tally.count(compared(&question, tables.clone(), &lists));
+        disturb_lengths(draw, &mut tables);
+        tally.count(compared(&question, tables.clone(), &lists));
+        question.board = draw.board_out_of_range(question.board);
+        tally.count(compared(&question, tables, &lists));
+    }
+}
+
+/// A schedule, the requests, and the cost or the refusal with its place.
+type Case = (Vec<Move>, Vec<Ask>, Result<u32, (u32, usize)>);
+
+fn ask(processor: u32, variable: u32, write: Option<u32>) -> Ask {
+    Ask {
+        processor,
+        variable,
+        write,
+    }
+}
+
+/// Cases with 2 processors, 2 lines, 3 words in a block and 5 blocks.
+fn cases() -> Vec<Case> {
+    use Move::*;
+    let read = ask(0, 0, None);
+    let write = ask(0, 0, Some(1));
+    let served = |rest: &[Move]| [&[Fetch(0, 0), Complete], rest].concat();
+    vec![
+        (vec![], vec![], Ok(0)),
+        (vec![], vec![ask(9, 99, None)], Err((28, 0))),
+        (vec![Fetch(2, 5)], vec![], Err((3, 0))),
+        (vec![Fetch(1, 5)], vec![], Err((8, 0))),
+        (vec![Drop(2, 5)], vec![], Err((3, 0))),
+        (vec![WriteBack(0, 5)], vec![], Err((8, 0))),
+        (vec![Fetch(0, 1), Fetch(0, 1)], vec![], Err((23, 1))),
+        (vec![Fetch(0, 1), Fetch(0, 3)], vec![], Err((23, 1))),
+        (vec![Fetch(0, 1), Fetch(1, 3)], vec![], Ok(6)),
+        (vec![Fetch(0, 1), Drop(0, 3)], vec![], Err((24, 1))),
+        (vec![WriteBack(0, 0)], vec![], Err((24, 0))),
+        (vec![Fetch(0, 0), WriteBack(0, 0)], vec![], Ok(6)),
+        (vec![Complete], vec![], Err((26, 0))),
+        (vec![Broadcast], vec![ask(2, 15, None)], Err((3, 0))),
+        (vec![Broadcast], vec![ask(1, 15, None)], Err((4, 0))),
+        (vec![Broadcast], vec![read], Err((9, 0))),
+        (vec![Complete], vec![read], Err((27, 0))),
+        (vec![Fetch(1, 0), Complete], vec![read], Err((27, 1))),
+        (served(&[]), vec![read, read], Err((28, 2))),
+        (served(&[Drop(0, 0)]), vec![read], Ok(3)),
+        (served(&[Drop(0, 0)]), vec![write], Err((25, 2))),
+        (
+            served(&[Broadcast, Drop(0, 0)]),
+            vec![write; 2],
+            Err((25, 3)),
+        ),
+        (served(&[Fetch(1, 0), Drop(0, 0)]), vec![write], Ok(6)),
+        (served(&[WriteBack(0, 0), Drop(0, 0)]), vec![write], Ok(6)),
+        (vec![Fetch(0, 0), Broadcast, Drop(0, 0)], vec![write], Ok(4)),
+        (vec![Fetch(0, 0), Fetch(1, 0), Complete], vec![write], Ok(7)),
+    ]
+}
+
+/// The order of the conditions at one entry, and what is not refused.
+#[test]
+fn conditions_in_order() {
+    let board = Board {
+        n: 2,
+        l: 2,
+        p: 3,
+        m: 5,
+    };
+    for (moves, asks, answer) in cases() {
+        let question = Question { board, moves, asks };
+        let tables = RivalTables::sized(lend::setup(board));
+        let told = question.expected(&tables);
+        let (refusal, place) = answer.err().unwrap_or((0, 0));
+        assert_eq!((told.refusal, told.place), (refusal, place), "{question}");
+        assert_eq!(told.cost, answer.unwrap_or(0), "{question}");
+        compared(&question, tables, &question.lists());
+    }
+}

@@ -1,0 +1,270 @@
+//! The document's own cases, S1 to S12 and the printed trace, with nothing but the safe functions.
+
+use cuzkelor::{
+    count_trace, look, run, start, Account, Block, Refusal, Report, Request, Requests, RunAnswer,
+    Setup, Tables, Variable, TRACE_SETUP,
+};
+
+/// Tables and account of one host.
+struct Host {
+    setup: Setup,
+    tables: Tables,
+    account: Account,
+}
+
+impl Host {
+    fn fresh(setup: Setup) -> Host {
+        Host {
+            setup,
+            tables: Tables::started(setup).expect("in range"),
+            account: Account::default(),
+        }
+    }
+
+    /// One request that is taken: its value, and the cycles of fetch, write-back and update.
+    fn one(&mut self, request: Request) -> (u32, [u32; 3]) {
+        let before = self.account;
+        let (answer, value) = self.try_one(request);
+        assert_eq!(answer, taken(1));
+        assert_eq!(self.account.requests, before.requests + 1);
+        let cycles = [
+            self.account.fetch - before.fetch,
+            self.account.write_back - before.write_back,
+            self.account.update - before.update,
+        ];
+        (value, cycles)
+    }
+
+    fn try_one(&mut self, request: Request) -> (RunAnswer, u32) {
+        let mut values = [0xdead];
+        let requests = Requests::from(&[request][..]);
+        let answer = run(
+            self.setup,
+            &mut self.tables,
+            &mut self.account,
+            &requests,
+            &mut values,
+        );
+        (answer, values[0])
+    }
+
+    fn read(&mut self, processor: u32, variable: u32) -> (u32, [u32; 3]) {
+        self.one(Request::read(processor, Variable(variable)))
+    }
+
+    fn write(&mut self, processor: u32, variable: u32, value: u32) -> (u32, [u32; 3]) {
+        self.one(Request::write(processor, Variable(variable), value))
+    }
+
+    /// Counter and mark of line 0, where block 0 stands.
+    fn line_0(&self, processor: u32) -> (u32, u32) {
+        let at = (processor * self.setup.lines) as usize;
+        (self.tables.counters[at], self.tables.marks[at])
+    }
+
+    fn words(&self, processor: u32, block: u32) -> &[u32] {
+        look(self.setup, &self.tables, processor, Block(block))
+    }
+}
+
+fn taken(count: usize) -> RunAnswer {
+    RunAnswer {
+        taken: count,
+        refusal: None,
+        place: 0,
+    }
+}
+
+fn refused(refusal: Refusal) -> RunAnswer {
+    RunAnswer {
+        taken: 0,
+        refusal: Some(refusal),
+        place: 0,
+    }
+}
+
+fn after_s1() -> Host {
+    let mut host = Host::fresh(TRACE_SETUP);
+    assert_eq!(host.read(0, 0), (0, [4, 0, 0]));
+    host
+}
+
+fn after_s3() -> Host {
+    let mut host = after_s1();
+    assert_eq!(host.write(0, 0, 7), (7, [0, 0, 0]));
+    host
+}
+
+fn after_s4() -> Host {
+    let mut host = after_s3();
+    assert_eq!(host.read(1, 0), (7, [4, 0, 0]));
+    host
+}
+
+fn after_s5() -> Host {
+    let mut host = after_s4();
+    for value in 1..=4 {
+        let left = host.line_0(1);
+        assert_eq!(left, (5 - value, 0));
+        assert_eq!(host.write(0, value % 4, value), (value, [0, 0, 1]));
+    }
+    host
+}
+
+#[test]
+fn s1_a_read_fetches() {
+    let host = after_s1();
+    assert_eq!(host.line_0(0), (4, 0));
+    assert_eq!(host.words(0, 0), [0; 4]);
+}
+
+#[test]
+fn s2_the_same_read_again() {
+    let mut host = after_s1();
+    let before = host.tables.clone();
+    assert_eq!(host.read(0, 0), (0, [0, 0, 0]));
+    assert_eq!(host.tables, before);
+}
+
+#[test]
+fn s3_a_lone_write_marks() {
+    let host = after_s3();
+    assert_eq!(host.line_0(0), (4, 1));
+    assert_eq!(host.tables.memory[0], 0);
+}
+
+#[test]
+fn s4_a_fetch_clears_the_mark() {
+    let host = after_s4();
+    assert_eq!(host.line_0(0), (4, 0));
+    assert_eq!(host.line_0(1), (4, 0));
+    assert_eq!(host.tables.memory[0], 7);
+}
+
+#[test]
+fn s5_four_writes_empty_the_payer() {
+    let host = after_s5();
+    assert_eq!(host.line_0(0), (4, 0));
+    assert_eq!(host.line_0(1), (0, 0));
+    assert!(host.words(1, 0).is_empty());
+    assert_eq!(host.words(0, 0), [4, 1, 2, 3]);
+    assert_eq!(host.tables.memory[..4], [4, 1, 2, 3]);
+}
+
+#[test]
+fn s6_a_fifth_write_is_alone() {
+    let mut host = after_s5();
+    assert_eq!(host.write(0, 0, 9), (9, [0, 0, 0]));
+    assert_eq!(host.line_0(0), (4, 1));
+    assert_eq!(host.tables.memory[0], 4);
+}
+
+#[test]
+fn s7_a_marked_block_is_written_back() {
+    let mut host = after_s3();
+    assert_eq!(host.read(0, 32), (0, [4, 4, 0]));
+    assert_eq!(host.tables.memory[0], 7);
+    assert_eq!(host.tables.blocks[0], 8);
+}
+
+#[test]
+fn s8_an_unmarked_block_goes_for_nothing() {
+    let mut host = after_s1();
+    assert_eq!(host.read(0, 32), (0, [4, 0, 0]));
+}
+
+#[test]
+fn s9_the_lowest_other_holder_pays() {
+    let mut host = Host::fresh(TRACE_SETUP);
+    for processor in 0..3 {
+        host.read(processor, 0);
+    }
+    assert_eq!(host.write(1, 0, 5), (5, [0, 0, 1]));
+    assert_eq!(host.line_0(0), (3, 0));
+    assert_eq!(host.line_0(1), (4, 0));
+    assert_eq!(host.line_0(2), (4, 0));
+}
+
+#[test]
+fn s10_one_word_two_holders() {
+    let mut host = Host::fresh(Setup {
+        block_words: 1,
+        ..TRACE_SETUP
+    });
+    host.read(0, 0);
+    host.read(1, 0);
+    assert_eq!(host.write(0, 0, 5), (5, [0, 0, 1]));
+    assert_eq!(host.line_0(0), (1, 0));
+    assert_eq!(host.line_0(1), (0, 0));
+}
+
+#[test]
+fn s11_the_empty_list() {
+    let mut host = after_s3();
+    let (tables, account) = (host.tables.clone(), host.account);
+    let none = Requests::default();
+    let answer = run(
+        host.setup,
+        &mut host.tables,
+        &mut host.account,
+        &none,
+        &mut [],
+    );
+    assert_eq!(answer, taken(0));
+    assert_eq!((host.tables, host.account), (tables, account));
+}
+
+#[test]
+fn s12_the_last_request_of_an_account() {
+    let mut host = Host::fresh(TRACE_SETUP);
+    host.account = Account {
+        requests: 999_999,
+        fetch: 4 * 999_999,
+        write_back: 4 * 999_999,
+        update: 999_999,
+    };
+    assert_eq!(host.read(0, 0), (0, [4, 0, 0]));
+    assert_eq!(host.account.requests, 1_000_000);
+    let (tables, account) = (host.tables.clone(), host.account);
+    let (answer, value) = host.try_one(Request::read(0, Variable(0)));
+    assert_eq!((answer, value), (refused(Refusal::AccountFull), 0xdead));
+    assert_eq!((host.tables, host.account), (tables, account));
+}
+
+#[test]
+fn the_last_variable() {
+    let mut host = Host::fresh(TRACE_SETUP);
+    assert_eq!(host.read(0, 255), (0, [4, 0, 0]));
+    let (answer, _) = host.try_one(Request::read(0, Variable(256)));
+    assert_eq!(answer, refused(Refusal::NoSuchVariable));
+}
+
+#[test]
+fn the_last_processor() {
+    let of = |processors| Setup {
+        processors,
+        ..TRACE_SETUP
+    };
+    assert!(Tables::started(of(8)).is_ok());
+    assert_eq!(Tables::started(of(9)), Err(Refusal::SetupOutOfRange));
+    let mut tables = Tables::sized(of(8));
+    assert_eq!(start(of(9), &mut tables), Err(Refusal::SetupOutOfRange));
+}
+
+#[test]
+fn the_printed_trace() {
+    let trace = b"0 00000000\n0 01000000\n1 00000000\n1 4\n";
+    let report = count_trace(trace, &mut Tables::sized(TRACE_SETUP));
+    let printed = Report {
+        account: Account {
+            requests: 4,
+            fetch: 8,
+            write_back: 0,
+            update: 2,
+        },
+        refusal: None,
+        line: 0,
+    };
+    assert_eq!(report, printed);
+    assert_eq!(report.account.total(), 10);
+}

@@ -1,0 +1,112 @@
+//! The pricer at its limits of size: accepted there, refused one past them, and linear in time.
+
+use cuzkelor::{
+    price, Block, Entry, PriceAnswer, Refusal, Request, Requests, RivalTables, Schedule, Setup,
+    Variable,
+};
+use std::time::Duration;
+
+mod clock;
+
+const SETUP: Setup = Setup {
+    processors: 4,
+    lines: 8,
+    block_words: 4,
+    block_count: 64,
+};
+
+/// The request at a place, spread over processors and blocks; every second one writes.
+fn request(place: u32) -> Request {
+    let variable = Variable(place.wrapping_mul(7) % 256);
+    match place % 2 {
+        0 => Request::read(place / 2 % 4, variable),
+        _ => Request::write(place / 2 % 4, variable, place),
+    }
+}
+
+/// Four entries that serve a request and leave the caches empty again, at 4 + 0 + 4 + 0 cycles.
+fn round(place: u32) -> [Entry; 4] {
+    let request = request(place);
+    let variable = match request.operation {
+        cuzkelor::Operation::Read(variable) | cuzkelor::Operation::Write(variable, _) => variable,
+    };
+    let (i, block) = (request.processor, SETUP.block_of(variable));
+    [
+        Entry::Fetch(i, block),
+        Entry::Complete,
+        Entry::WriteBack(i, block),
+        Entry::Drop(i, block),
+    ]
+}
+
+fn lists(rounds: u32) -> (Schedule, Requests) {
+    let schedule = (0..rounds).flat_map(round).collect();
+    (schedule, (0..rounds).map(request).collect())
+}
+
+/// Tables that hold anything before the call.
+fn used_tables() -> RivalTables {
+    let mut tables = RivalTables::sized(SETUP);
+    tables.blocks.fill(11);
+    tables.held.fill(12);
+    tables.marks.fill(13);
+    tables
+}
+
+/// Prices a schedule of so many rounds, checks its cost, and gives the least time of five calls.
+fn least_time(rounds: u32) -> Duration {
+    let (schedule, requests) = lists(rounds);
+    let call = |_| {
+        let mut tables = used_tables();
+        let (answer, time) = clock::timed(|| price(SETUP, &mut tables, &schedule, &requests));
+        assert_eq!(answer, PriceAnswer::Accepted { cost: 8 * rounds });
+        assert_eq!(tables, RivalTables::sized(SETUP));
+        time
+    };
+    (0..5).map(call).min().expect("five calls")
+}
+
+#[test]
+fn linear_up_to_the_limit() {
+    let times = [250_000, 500_000, 1_000_000].map(least_time);
+    for (entries, time) in [1, 2, 4].into_iter().zip(times) {
+        println!("size: {entries},000,000 entries priced in {time:.1?}");
+    }
+    assert!(times[2] < 8 * times[0], "time grows with length only");
+}
+
+fn refused_by_5(schedule: &Schedule, requests: &Requests) {
+    let mut tables = used_tables();
+    let refused = PriceAnswer::Refused {
+        refusal: Refusal::TooMany,
+        place: 0,
+    };
+    assert_eq!(price(SETUP, &mut tables, schedule, requests), refused);
+    assert_eq!(tables, used_tables(), "tables unchanged");
+}
+
+#[test]
+fn one_past_the_limits() {
+    let (mut schedule, mut requests) = lists(1_000_000);
+    schedule.push(Entry::Fetch(0, Block(0)));
+    assert_eq!(schedule.len(), 4_000_001);
+    refused_by_5(&schedule, &requests);
+    requests.push(request(0));
+    assert_eq!(requests.len(), 1_000_001);
+    refused_by_5(&Schedule::default(), &requests);
+    println!("size: 4,000,001 entries and 1,000,001 requests refused by 5");
+}
+
+/// Numbers that name no further entry or request are not counted by 5.
+#[test]
+fn numbers_that_name_nothing() {
+    let entries = vec![9; 2];
+    let requests = vec![9; 3];
+    let answer = price(
+        SETUP,
+        &mut used_tables(),
+        &Schedule::from_numbers(entries),
+        &Requests::from_numbers(requests),
+    );
+    assert_eq!(answer, PriceAnswer::Accepted { cost: 0 });
+}
