@@ -1,0 +1,19 @@
+use borrow.Author.Needs.{needs}
+use Rattle.trials.proofs.Products.{fits}
+use Rattle.trials.proofs.cells.product.Statement.{statement}
+use Rattle.trials.proofs.cells.product.Tie as tie
+
+mul-result : tie.Need-mul-result
+mul-result c = record { fits = fits (search needs) (search needs) }
+
+returns : tie.Need-returns
+returns c = search needs
+
+returns-2 : tie.Need-returns-2
+returns-2 c = search needs
+
+returns-3 : tie.Need-returns-3
+returns-3 c = search needs
+
+pub product-spec : {M : Type 1} → statement M
+product-spec = tie.close (tie.spec mul-result returns returns-2 returns-3)

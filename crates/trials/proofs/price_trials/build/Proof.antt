@@ -1,0 +1,63 @@
+use borrow.Author.Needs.{needs}
+use Prim.Native.Nat.{_≤_, _-_}
+use mathlib.Core.Path.{_≡_}
+use lib.ListN.{length}
+use Rattle.trials.proofs.price_trials.build.Statement.{statement}
+use Rattle.trials.proofs.price_trials.build.Tie as tie
+
+abbrev Inv-loop : tie.InvT-loop
+Inv-loop desk₀ facts₀ entries₀ setup requests n style turns at₀ t₀ desk facts entries at t = (length desk ≡ length desk₀) × (length facts ≡ length facts₀) × (length entries ≡ length entries₀)
+
+abbrev μ-loop : tie.MeasureT-loop
+μ-loop desk₀ facts₀ entries₀ setup requests n style turns at₀ t₀ desk facts entries at t = turns - t
+
+clear-requires : tie.Need-clear-requires Inv-loop μ-loop
+clear-requires c κs = search needs
+
+new-play-requires : tie.Need-new-play-requires Inv-loop μ-loop
+new-play-requires c κs = search needs
+
+loop-holds : tie.Need-loop-holds Inv-loop μ-loop
+loop-holds c = search needs
+
+extend-requires : tie.Need-extend-requires Inv-loop μ-loop
+extend-requires c κs = search needs
+
+add-t : tie.Need-add-t Inv-loop μ-loop
+add-t c = search needs
+
+loop-less : tie.Need-loop-less Inv-loop μ-loop
+loop-less c = search needs
+
+loop-again : tie.Need-loop-again Inv-loop μ-loop
+loop-again c = search needs
+
+same-length : tie.Need-same-length Inv-loop μ-loop
+same-length c = search needs
+
+same-length-2 : tie.Need-same-length-2 Inv-loop μ-loop
+same-length-2 c = search needs
+
+same-length-3 : tie.Need-same-length-3 Inv-loop μ-loop
+same-length-3 c = search needs
+
+returns : tie.Need-returns Inv-loop μ-loop
+returns c = search needs
+
+pub build-spec : {M : Type 1} → statement M
+build-spec =
+    tie.close
+    (tie.spec
+    Inv-loop
+    μ-loop
+    clear-requires
+    new-play-requires
+    loop-holds
+    extend-requires
+    add-t
+    loop-less
+    loop-again
+    same-length
+    same-length-2
+    same-length-3
+    returns)

@@ -1,0 +1,51 @@
+use borrow.Author.Needs.{needs}
+use Prim.Native.Nat.{_≤_, _-_}
+use mathlib.Core.Path.{_≡_}
+use lib.ListN.{length}
+use Rattle.trials.proofs.trace_trials.put_lines.Statement.{statement}
+use Rattle.trials.proofs.trace_trials.put_lines.Tie as tie
+
+abbrev Inv-loop : tie.InvT-loop
+Inv-loop desk₀ bytes₀ n at₀ k₀ desk bytes at k = (length desk ≡ length desk₀) × (length bytes ≡ length bytes₀)
+
+abbrev μ-loop : tie.MeasureT-loop
+μ-loop desk₀ bytes₀ n at₀ k₀ desk bytes at k = n - k
+
+loop-holds : tie.Need-loop-holds Inv-loop μ-loop
+loop-holds c = search needs
+
+put-whole-line-requires : tie.Need-put-whole-line-requires Inv-loop μ-loop
+put-whole-line-requires c κs = search needs
+
+add-k : tie.Need-add-k Inv-loop μ-loop
+add-k c = search needs
+
+loop-less : tie.Need-loop-less Inv-loop μ-loop
+loop-less c = search needs
+
+loop-again : tie.Need-loop-again Inv-loop μ-loop
+loop-again c = search needs
+
+same-length : tie.Need-same-length Inv-loop μ-loop
+same-length c = search needs
+
+same-length-2 : tie.Need-same-length-2 Inv-loop μ-loop
+same-length-2 c = search needs
+
+returns : tie.Need-returns Inv-loop μ-loop
+returns c = search needs
+
+pub put-lines-spec : {M : Type 1} → statement M
+put-lines-spec =
+    tie.close
+    (tie.spec
+    Inv-loop
+    μ-loop
+    loop-holds
+    put-whole-line-requires
+    add-k
+    loop-less
+    loop-again
+    same-length
+    same-length-2
+    returns)
