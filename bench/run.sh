@@ -1,9 +1,10 @@
 #!/usr/bin/env bash
 # Times buscount beside the same job in plain C, Rust and Free Pascal, in one go, on a made trace of 1,000,000 lines.
-# Prints the least user time of RUNS runs (default 15) and its ratio to C's. Needs rt, gcc, rustc, fpc and python3.
+# Prints the least and the mean user time of RUNS runs (default 60), in turn, and their ratios to C's. The least alone is rough, since
+# the kernel counts user time in steps. Needs rt, gcc, rustc, fpc and python3.
 set -eu
 cd "$(dirname "$0")/.."
-runs=${RUNS:-15}
+runs=${RUNS:-60}
 out=target/bench
 mkdir -p "$out"
 [ -x target/bin/buscount ] || rt check buscount > /dev/null
@@ -19,14 +20,15 @@ python3 - "$out" "$runs" <<'P'
 import resource, subprocess, sys
 folder, runs = sys.argv[1], int(sys.argv[2])
 names = ["buscount", "c", "rust", "pascal"]
-least = {}
+taken = {name: [] for name in names}
 for _ in range(runs):
     for name in names:
         before = resource.getrusage(resource.RUSAGE_CHILDREN).ru_utime
         with open(folder + "/trace") as trace:
             subprocess.run([folder + "/" + name], stdin=trace, stdout=subprocess.DEVNULL, check=True)
-        taken = resource.getrusage(resource.RUSAGE_CHILDREN).ru_utime - before
-        least[name] = min(least.get(name, taken), taken)
+        taken[name].append(resource.getrusage(resource.RUSAGE_CHILDREN).ru_utime - before)
+least = {name: min(taken[name]) for name in names}
+mean = {name: sum(taken[name]) / runs for name in names}
 for name in names:
-    print("%-9s %.3f s   %.2f x C" % (name, least[name], least[name] / least["c"]))
+    print("%-9s least %.3f s, %.2f x C   mean %.3f s, %.2f x C" % (name, least[name], least[name] / least["c"], mean[name], mean[name] / mean["c"]))
 P
