@@ -2,33 +2,33 @@
 use Prim.Native.Nat.{ℕ, _+_, _-_, _≤_, _<_}
 use mathlib.Core.Path.{_≡_, refl, sym, ap, _∙_}
 use mathlib.Core.Logic.{_≢_}
-use mathlib.Core.Bool.{Bool, true, false, not, _&&_, cond, true≢false}
+use mathlib.Core.Bool.{Bool, true, false, cond, true≢false}
 use mathlib.Core.List.{List, [], _∷_}
 use native.Mathlib.Omega.{arith}
 use native.Mathlib.Nat.{le-refl}
-use lib.ListN.{length, set, length-set}
+use lib.ListN.{set}
 use lib.Dec.{ltb, eqb}
 use borrow.Author.Tests.{ltb-true, eqb-true, eq-eqb}
 use Rattle.protocol.specs.Lists.{at}
-use Rattle.protocol.specs.Refusals.{noRefusal, noSuchProcessor, noSuchVariable, readByBroadcast, lineInUse, blockNotHeld, dropOfMarked, completionNotHeld}
-use Rattle.protocol.specs.Board.{Fits, variables, slots, slot, offsetOf, fetchPrice}
+use Rattle.protocol.specs.Refusals.{noRefusal, lineInUse, blockNotHeld, dropOfMarked}
+use Rattle.protocol.specs.Board.{Fits, slots, slot, offsetOf, fetchPrice}
 use Rattle.protocol.specs.Tables.{Tables, Sized, counter, block, holdsAt, holds, marked}
 use Rattle.protocol.specs.Soundness.{Sound}
 use Rattle.protocol.specs.Rules.{writtenBack, emptied, filled, saved, evicted, owner, released, fetched, obtained, payer, writtenAlone, broadcast, charged, written}
 use Rattle.protocol.specs.Requests.{served, target, isWrite, variableOf, newValue, Valid}
-use Rattle.protocol.specs.Rival.{Rival, keepsAt, keeps, shared, rivalFetched, rivalWrittenBack, rivalDropped, rivalCompleted, completionCycles, completionRefusal, Legal, costs}
+use Rattle.protocol.specs.Rival.{Rival, RivalSized, keepsAt, keeps, shared, rivalFetched, rivalWrittenBack, rivalDropped, rivalCompleted, completionCycles, Legal, costs}
 use Rattle.protocol.specs.declared.Setup.{Setup}
 use Rattle.protocol.specs.declared.Block.{Block}
 use Rattle.protocol.specs.declared.Request.{Request}
 use Rattle.protocol.specs.declared.Bill.{Bill}
 use Rattle.protocol.specs.declared.Entry.{Entry}
 use Rattle.protocol.specs.declared.Entry.the-variants.{Fetch, WriteBack, Drop, Complete, CompleteByBroadcast}
-use Rattle.protocol.proofs.Laws.{Known, sure, not-so, known, choice, chosen-zero, chosen-other, agree, both-true, and-true, other-some, at-set-same, at-set-other}
+use Rattle.protocol.proofs.Laws.{Known, sure, not-so, known, choice, chosen-zero, agree, both-true, and-true, other-some, at-set-same, at-set-other}
 use Rattle.protocol.proofs.Board.{block-path, block-number, slot-lt, slot-inj, offset-lt}
 use Rattle.protocol.proofs.Holding.{holdsAt-false, holder-slot, payer-found}
 use Rattle.protocol.proofs.Lengths.{block-stored, counter-stored, sized-evicted, sized-released, sized-broadcast}
 use Rattle.protocol.proofs.Requests.{target-lt}
-use Rattle.protocol.proofs.Rival.{move-legal}
+use Rattle.protocol.proofs.Rival.{move-legal, completion-legal, sized-played}
 use Rattle.competitive.proofs.Sums.{sum, sum-one}
 use Rattle.competitive.proofs.StepSound.{sound-obtained, obtained-holds, sound-served}
 use Rattle.competitive.proofs.Potential.{Potential}
@@ -37,17 +37,13 @@ use Rattle.competitive.proofs.Potential.{Potential}
 abbrev pub paidFor : Bill → ℕ
 paidFor c = c .fetch + c .update
 
--- ---- the rival's copies, and its tables' lengths
+-- ---- the rival's copies
 
 abbrev pub held : Rival → ℕ → ℕ
 held r k = at (r .held) k
 
 abbrev pub copy : Rival → ℕ → ℕ
 copy r k = at (r .blocks) k
-
-pub record RivalSized (s : Setup) (r : Rival) : Type 0 where
-  pub blocks : length (r .blocks) ≡ slots s
-  pub held : length (r .held) ≡ slots s
 
 -- ---- counters and block numbers after each part of a step
 
@@ -332,48 +328,13 @@ module _ (s : Setup) (ok : Fits s) (F W U : ℕ) (ψ : ℕ → ℕ → ℕ → �
           )
       go false e = omega (arith, first-part)
 
--- ---- what a legal entry says
-
-pub record Completion (s : Setup) (r : Rival) (q : Request) : Type 0 where
-  pub valid : Valid s q
-  pub keeps : keeps s r (q .processor) (target s q) ≡ true
-
-pub completion-legal : (s : Setup) (r : Rival) (q : Request) (a : Bool) → completionRefusal s r q a ≡ 0 → Completion s r q
-unfolding completionRefusal
-completion-legal s r q a e =
-    let kept : ℕ = cond (keeps s r (q .processor) (target s q)) noRefusal completionNotHeld in
-    let done : ℕ = cond (a && not (isWrite q)) readByBroadcast kept in
-    let known : ℕ = cond (ltb (variableOf q .0) (variables s)) done noSuchVariable in
-    let e1 = chosen-zero (ltb (q .processor) (s .processors)) known noSuchProcessor (omega arith) e in
-    let e2 = chosen-zero (ltb (variableOf q .0) (variables s)) done noSuchVariable (omega arith) (e1 .1) in
-    let e3 = chosen-other (a && not (isWrite q)) readByBroadcast kept (omega arith) (e2 .1) in
-    let e4 = chosen-zero (keeps s r (q .processor) (target s q)) noRefusal completionNotHeld (omega arith) (e3 .1) in
-    record { valid = record { processor = ltb-true _ _ (e1 .0); variable = ltb-true _ _ (e2 .0) }; keeps = e4 .0 }
+-- ---- what a completion pays
 
 completion-pays : (s : Setup) (r : Rival) (q : Request) (a : Bool) → isWrite q ≡ true → shared s r (q .processor) (target s q) ≡ true
     → 1 ≤ completionCycles s r q a
 unfolding completionCycles
 completion-pays s r q true e h = rw e (omega arith)
 completion-pays s r q false e h = rw (e, h) (omega arith)
-
-sized-rivalFetched : (s : Setup) (r : Rival) (i : ℕ) (b : Block) → RivalSized s r → RivalSized s (rivalFetched s r i b)
-unfolding rivalFetched
-sized-rivalFetched s r i b sh = record {
-  blocks = length-set (r .blocks) (slot s i b) (b .0) ∙ sh .blocks;
-  held = length-set (r .held) (slot s i b) 1 ∙ sh .held;
-}
-
-sized-rivalDropped : (s : Setup) (r : Rival) (i : ℕ) (b : Block) → RivalSized s r → RivalSized s (rivalDropped s r i b)
-unfolding rivalDropped
-sized-rivalDropped s r i b sh = record { blocks = length-set (r .blocks) (slot s i b) 0 ∙ sh .blocks; held = length-set (r .held) (slot s i b) 0 ∙ sh .held }
-
-sized-rivalWrittenBack : (s : Setup) (r : Rival) (i : ℕ) (b : Block) → RivalSized s r → RivalSized s (rivalWrittenBack s r i b)
-unfolding rivalWrittenBack
-sized-rivalWrittenBack s r i b sh = record { blocks = sh .blocks; held = sh .held }
-
-sized-rivalCompleted : (s : Setup) (r : Rival) (q : Request) → RivalSized s r → RivalSized s (rivalCompleted s r q)
-unfolding rivalCompleted
-sized-rivalCompleted s r q sh = record { blocks = sh .blocks; held = sh .held }
 
 -- ---- a whole schedule
 
@@ -423,13 +384,13 @@ module _ (s : Setup) (ok : Fits s) (F W U : ℕ) (ψ : ℕ → ℕ → ℕ → �
   bound (Fetch i b ∷ es) t r qs sd sh l =
       let m = move-legal s i b _ (l .0) in
       let e = eqb-true _ _ (chosen-zero (eqb (held r (slot s i b)) 0) noRefusal lineInUse (omega arith) (m .rest) .0) in
-      omega (arith, fetch-bound t sd r sh i b (m .processor) e, bound es t (rivalFetched s r i b) qs sd (sized-rivalFetched s r i b sh) (l .1))
+      omega (arith, fetch-bound t sd r sh i b (m .processor) e, bound es t (rivalFetched s r i b) qs sd (sized-played s r sh qs (Fetch i b)) (l .1))
   bound (WriteBack i b ∷ es) t r qs sd sh l =
-      omega (arith, rivalWrittenBack-total t r i b, bound es t (rivalWrittenBack s r i b) qs sd (sized-rivalWrittenBack s r i b sh) (l .1))
+      omega (arith, rivalWrittenBack-total t r i b, bound es t (rivalWrittenBack s r i b) qs sd (sized-played s r sh qs (WriteBack i b)) (l .1))
   bound (Drop i b ∷ es) t r qs sd sh l =
       let m = move-legal s i b _ (l .0) in
       let e = chosen-zero (keeps s r i b) (cond (eqb (at (r .marks) (slot s i b)) 0) noRefusal dropOfMarked) blockNotHeld (omega arith) (m .rest) .0 in
-      omega (arith, drop-bound t sd r sh i b (m .processor) e, bound es t (rivalDropped s r i b) qs sd (sized-rivalDropped s r i b sh) (l .1))
+      omega (arith, drop-bound t sd r sh i b (m .processor) e, bound es t (rivalDropped s r i b) qs sd (sized-played s r sh qs (Drop i b)) (l .1))
   bound (Complete ∷ es) t r [] sd sh l = absurd (omega (arith, l .0))
   bound (Complete ∷ es) t r (q ∷ qs) sd sh l =
       let c = completion-legal s r q false (l .0) in
@@ -437,7 +398,7 @@ module _ (s : Setup) (ok : Fits s) (F W U : ℕ) (ψ : ℕ → ℕ → ℕ → �
         arith,
         served-bound s ok F W U ψ P t sd r q (c .valid) (c .keeps) (completionCycles s r q false) (completion-pays s r q false),
         rivalCompleted-total (served s t q) r q,
-        bound es (served s t q) (rivalCompleted s r q) qs (sound-served s ok t sd q (c .valid)) (sized-rivalCompleted s r q sh) (l .1),
+        bound es (served s t q) (rivalCompleted s r q) qs (sound-served s ok t sd q (c .valid)) (sized-played s r sh (q ∷ qs) Complete) (l .1),
       )
   bound (CompleteByBroadcast ∷ es) t r [] sd sh l = absurd (omega (arith, l .0))
   bound (CompleteByBroadcast ∷ es) t r (q ∷ qs) sd sh l =

@@ -4,7 +4,6 @@ use mathlib.Core.Path.{_≡_, refl}
 use mathlib.Core.Bool.{Bool, true, false, cond}
 use mathlib.Core.List.{List, [], _∷_}
 use native.Mathlib.Omega.{arith}
-use lib.ListN.{length-replicate}
 use lib.Dec.{ltb}
 use Rattle.protocol.specs.Board.{Fits, slots, slot, fetchPrice, writeBackPrice}
 use Rattle.protocol.specs.Tables.{Tables, fresh, holds, marked}
@@ -18,16 +17,13 @@ use Rattle.protocol.specs.declared.Block.{Block}
 use Rattle.protocol.specs.declared.Request.{Request}
 use Rattle.protocol.specs.declared.Entry.{Entry}
 use Rattle.protocol.proofs.Laws.{at-zeros}
+use Rattle.protocol.proofs.Rival.{sized-noCopies}
 use Rattle.competitive.proofs.Sums.{sum-zero}
 use Rattle.competitive.proofs.Fresh.{sound-fresh}
 use Rattle.competitive.proofs.Potential.{Potential, debt, load, fetch-potential, update-potential}
-use Rattle.competitive.proofs.Bound.{RivalSized, obtainedCharge, writtenCharge, charge, charges, total, paidFor, bound}
+use Rattle.competitive.proofs.Bound.{obtainedCharge, writtenCharge, charge, charges, total, paidFor, bound}
 
 -- ---- the start: empty caches on both sides
-
-pub sized-noCopies : (s : Setup) → RivalSized s (noCopies s)
-unfolding noCopies
-sized-noCopies s = record { blocks = length-replicate (slots s) 0; held = length-replicate (slots s) 0 }
 
 pub total-fresh : (s : Setup) (F W U : ℕ) (ψ : ℕ → ℕ → ℕ → ℕ → ℕ) → Potential (fetchPrice s) F W U ψ → total ψ s (fresh s) (noCopies s) ≡ 0
 unfolding total fresh noCopies

@@ -16,7 +16,7 @@ use Rattle.protocol.specs.Soundness.{Sound}
 use Rattle.protocol.specs.Requests.{served, value, bill, isWrite, variableOf, newValue, requestRefusal, requestLimit, Valid}
 use Rattle.protocol.specs.Accounts.{entered}
 use Rattle.protocol.specs.Runs.{Outcome, ended, onward, walk, runRefusal, run, Run, State, outcomes, outcomeOf, leftBy, takenRun, servedAll}
-use Rattle.competitive.specs.Claims.{expectedValue, expectedFrom, expectedRun, expectedAll, valuesOf, NeverUnsound, LastValues}
+use Rattle.competitive.specs.Claims.{expectedValue, expectedFrom, expectedRun, expectedAll, valuesOf, Never20Or21, LastValues}
 use Rattle.protocol.specs.declared.Setup.{Setup}
 use Rattle.protocol.specs.declared.Request.{Request}
 use Rattle.protocol.specs.declared.Account.{Account}
@@ -47,24 +47,24 @@ valid-append s (q ∷ xs) ys a b = (a .0, valid-append s xs ys (a .1) b)
 
 -- ---- a walk
 
--- neither 20 nor 21
-abbrev Sane : ℕ → Type 0
-Sane n = (n ≢ unsoundTables) × (n ≢ impossibleAccount)
+-- a refusal that is neither of the two
+abbrev Neither20Nor21 : ℕ → Type 0
+Neither20Nor21 n = (n ≢ unsoundTables) × (n ≢ impossibleAccount)
 
-request-sane : (s : Setup) (n : ℕ) (q : Request) → Sane (requestRefusal s n q)
+request-meets-neither : (s : Setup) (n : ℕ) (q : Request) → Neither20Nor21 (requestRefusal s n q)
 unfolding requestRefusal
-request-sane s n q =
-    choice Sane (ltb (q .processor) (s .processors))
-    (λ _. choice Sane (ltb (variableOf q .0) (variables s))
-    (λ _. choice Sane (ltb n requestLimit) (λ _. (λ e. omega arith, λ e. omega arith)) (λ _. (λ e. omega arith, λ e. omega arith)))
+request-meets-neither s n q =
+    choice Neither20Nor21 (ltb (q .processor) (s .processors))
+    (λ _. choice Neither20Nor21 (ltb (variableOf q .0) (variables s))
+    (λ _. choice Neither20Nor21 (ltb n requestLimit) (λ _. (λ e. omega arith, λ e. omega arith)) (λ _. (λ e. omega arith, λ e. omega arith)))
     (λ _. (λ e. omega arith, λ e. omega arith)))
     (λ _. (λ e. omega arith, λ e. omega arith))
 
-walk-sane : (s : Setup) (t : Tables) (a : Account) (qs : List Request) (vs : List ℕ) → Sane (walk s t a qs vs .answer .refusal)
-walk-sane s t a [] vs = (λ e. omega arith, λ e. omega arith)
-walk-sane s t a (q ∷ qs) vs =
-    choice (λ (z : Outcome). Sane (z .answer .refusal)) (eqb (requestRefusal s (a .requests) q) 0)
-    (λ _. walk-sane s (served s t q) (entered a 1 (bill s t q)) qs (tail vs)) (λ _. request-sane s (a .requests) q)
+walk-meets-neither : (s : Setup) (t : Tables) (a : Account) (qs : List Request) (vs : List ℕ) → Neither20Nor21 (walk s t a qs vs .answer .refusal)
+walk-meets-neither s t a [] vs = (λ e. omega arith, λ e. omega arith)
+walk-meets-neither s t a (q ∷ qs) vs =
+    choice (λ (z : Outcome). Neither20Nor21 (z .answer .refusal)) (eqb (requestRefusal s (a .requests) q) 0)
+    (λ _. walk-meets-neither s (served s t q) (entered a 1 (bill s t q)) qs (tail vs)) (λ _. request-meets-neither s (a .requests) q)
 
 walk-values : (s : Setup) (ok : Fits s) (a : Account) (ps : List Request) → AllValid s ps → (qs : List Request) (vs : List ℕ)
     → walk s (servedAll s (fresh s) ps) a qs vs .values ≡ expectedFrom s (a .requests) ps qs vs
@@ -107,7 +107,7 @@ module _ (s : Setup) (ranged : inRange s ≡ true) where
 
   -- the values of one run, and its refusal
   run-values : (ps : List Request) → AllValid s ps → (a : Account) → Possible s a → (r : Run)
-      → (outcomeOf s (from ps a) r .values ≡ expectedRun s (a .requests) ps r) × Sane (outcomeOf s (from ps a) r .answer .refusal)
+      → (outcomeOf s (from ps a) r .values ≡ expectedRun s (a .requests) ps r) × Neither20Nor21 (outcomeOf s (from ps a) r .answer .refusal)
   unfolding run runRefusal expectedRun
   run-values ps va a po r =
       let sd = sound-ps ps va in
@@ -119,12 +119,12 @@ module _ (s : Setup) (ranged : inRange s ≡ true) where
       after : Bool → Outcome
       after c = cond (eqb (cond c noRefusal wrongLength) 0) (walk s t a (r .requests) (r .values)) (ended (cond c noRefusal wrongLength) t a (r .values))
 
-      go : (c : Bool) → (after c .values ≡ cond c (expectedFrom s (a .requests) ps (r .requests) (r .values)) (r .values)) × Sane (after c .answer .refusal)
-      go true = (walk-values s ok a ps va (r .requests) (r .values), walk-sane s t a (r .requests) (r .values))
+      go : (c : Bool) → (after c .values ≡ cond c (expectedFrom s (a .requests) ps (r .requests) (r .values)) (r .values)) × Neither20Nor21 (after c .answer .refusal)
+      go true = (walk-values s ok a ps va (r .requests) (r .values), walk-meets-neither s t a (r .requests) (r .values))
       go false = (refl, (λ e. omega arith, λ e. omega arith))
 
   runs-values : (rs : List Run) (ps : List Request) → AllValid s ps → (a : Account) → Possible s a
-      → (valuesOf (outcomes s (from ps a) rs) ≡ expectedAll s (a .requests) ps rs) × NeverUnsound (outcomes s (from ps a) rs)
+      → (valuesOf (outcomes s (from ps a) rs) ≡ expectedAll s (a .requests) ps rs) × Never20Or21 (outcomes s (from ps a) rs)
   runs-values [] ps va a po = (refl, tt)
   runs-values (r ∷ rs) ps va a po =
       let t : Tables = servedAll s (fresh s) ps in

@@ -4,6 +4,7 @@ use mathlib.Core.Path.{_≡_, refl, sym, ap, _∙_}
 use mathlib.Core.Bool.{Bool, true, false, cond, true≢false}
 use mathlib.Core.List.{List, [], _∷_}
 use native.Mathlib.Omega.{arith}
+use lib.ListN.{length}
 use lib.Dec.{eqb}
 use borrow.Author.Tests.{eqb-true, eq-eqb}
 use Rattle.protocol.specs.Refusals.{noRefusal}
@@ -65,7 +66,7 @@ refused-clears : (s : Setup) (v : Verdict) → isCost (answerTo v) ≡ false →
 refused-clears s (accepted r c) e = absurd (true≢false e)
 refused-clears s (refused n k) e = refl
 
-module _ (s : Setup) (lent : Rival) (qs : List Request) (es : List Entry) (ok : priceRefusal s lent qs es ≡ noRefusal) where
+module _ (s : Setup) (lent : Rival) (qs : List Request) (es : List Entry) (ok : priceRefusal s lent (length es) (length qs) ≡ noRefusal) where
   price-is : price s lent qs es ≡ answerTo (verdict s qs es)
   unfolding price
   price-is = rw ok

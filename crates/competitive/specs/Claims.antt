@@ -1,4 +1,4 @@
--- What the demands say of whole lists of runs and of whole schedules. The proofs are in crate competitive.
+-- What the demands say of whole lists of runs and of whole schedules. proofs/Demands proves it of every setup that 1 lets through.
 use Prim.Native.Nat.{ℕ, _+_, _*_, _≤_}
 use mathlib.Core.Path.{_≡_}
 use mathlib.Core.Logic.{_≢_}
@@ -39,7 +39,7 @@ pub record Claim (s : Setup) (a : Account) (rs : List Run) : Type 0 where
   pub halves : (es : List Entry) → Legal s (noCopies s) (takenAll s (a .requests) rs) es
       → cycles (spent s (fresh s) (takenAll s (a .requests) rs)) ≤ 2 * cycles (costs s (noCopies s) (takenAll s (a .requests) rs) es)
 
--- the factor is exact: a list of k × (p + 1) + 2 requests, and a schedule for it
+-- how near to 2 the factor comes: a list of k × (p + 1) + 2 requests and a schedule for it, which cost 2p + 2pk and 2p + pk
 pub record TightList (s : Setup) (k : ℕ) : Type 0 where
   pub requests : List Request
   pub schedule : List Entry
@@ -89,13 +89,13 @@ valuesOf [] = []
 valuesOf (o ∷ os) = o .values ∷ valuesOf os
 
 -- none of the outcomes is refused by 20 or 21
-abbrev pub NeverUnsound : List Outcome → Type 0
-NeverUnsound [] = Unit {0}
-NeverUnsound (o ∷ os) = (o .answer .refusal ≢ unsoundTables) × (o .answer .refusal ≢ impossibleAccount) × NeverUnsound os
+abbrev pub Never20Or21 : List Outcome → Type 0
+Never20Or21 [] = Unit {0}
+Never20Or21 (o ∷ os) = (o .answer .refusal ≢ unsoundTables) × (o .answer .refusal ≢ impossibleAccount) × Never20Or21 os
 
 pub record LastValues (s : Setup) : Type 0 where
   pub values : (a : Account) → possible s a ≡ true → (rs : List Run) → valuesOf (outcomes s (opening s a) rs) ≡ expectedAll s (a .requests) [] rs
-  pub never : (a : Account) → possible s a ≡ true → (rs : List Run) → NeverUnsound (outcomes s (opening s a) rs)
+  pub never : (a : Account) → possible s a ≡ true → (rs : List Run) → Never20Or21 (outcomes s (opening s a) rs)
 
 -- ---- demand 2: "A rival schedule that 1, 2 and 5 let through is accepted if and only if it is legal, at its true cost."
 
@@ -106,10 +106,10 @@ pub record PricedRight (s : Setup) (lent : Rival) (qs : List Request) (es : List
   pub clears : (n k : ℕ) → price s lent qs es ≡ Refused n k → priceTables s lent qs es ≡ noCopies s
   pub truly : (c : ℕ) → price s lent qs es ≡ Accepted c → c ≡ cycles (costs s (noCopies s) qs es)
 
--- each demand, of every setup that 1 lets through
+-- each demand, of one setup
 pub record Demands (s : Setup) : Type 0 where
   pub last-values : LastValues s
-  pub priced-right : (lent : Rival) (qs : List Request) (es : List Entry) → priceRefusal s lent qs es ≡ noRefusal → PricedRight s lent qs es
+  pub priced-right : (lent : Rival) (qs : List Request) (es : List Entry) → priceRefusal s lent (length es) (length qs) ≡ noRefusal → PricedRight s lent qs es
   pub demand3 : Demand3 s
   -- the engine's own actions are a legal schedule for the requests that a list of runs takes
   pub engine-is-rival : (a : Account) → possible s a ≡ true → (rs : List Run) → EngineIsRival s (takenAll s (a .requests) rs)

@@ -27,11 +27,11 @@ saving t i k = cond (marked t k) (WriteBack i (block t k) ∷ []) []
 unfoldable pub evicting : Tables → ℕ → ℕ → List Entry
 evicting t i k = cond (ltb 0 (counter t k)) (saving t i k ++ Drop i (block t k) ∷ []) []
 
--- rules 1 and 2: on a miss processor i clears the slot and fetches block b; on a hit it does nothing
+-- rules 1 and 2: on a miss processor i empties the slot and fetches block b; on a hit it does nothing
 unfoldable pub obtaining : Setup → Tables → ℕ → Block → List Entry
 obtaining s t i b = cond (holds s t i b) [] (evicting t i (slot s i b) ++ Fetch i b ∷ [])
 
--- rule 5, once processor i's write is completed: the payer drops block b if its last count went
+-- rule 5, once processor i's write is completed: the payer drops block b if its counter was 1
 unfoldable pub paying : Setup → Tables → ℕ → Block → List Entry
 paying s t i b =
     cond (ltb (payer s t i b) (s .processors) && eqb (counter t (slot s (payer s t i b) b)) 1)

@@ -80,13 +80,6 @@ same-block? b c = go (same? (b .0) (c .0))
     go (same p q) = one (block-path p)
     go (apart p q) = two (λ e. p (block-number e))
 
-pub same-variable : (s : Setup) (v w : Variable) → blockOf s v ≡ blockOf s w → offsetOf s v ≡ offsetOf s w → v ≡ w
-unfolding blockOf offsetOf
-same-variable s v w e f =
-    variable-path
-    (sym (div-add-mod' (v .0) (s .words)) ∙ ap (λ (z : Block). z .0 * s .words + v .0 % s .words) e ∙ ap (λ z. w .0 / s .words * s .words + z) f
-    ∙ div-add-mod' (w .0) (s .words))
-
 -- ---- slots and words
 
 module _ (s : Setup) (ok : Fits s) where
@@ -141,3 +134,11 @@ module _ (s : Setup) (ok : Fits s) where
   pub block-lt : (v : Variable) → v .0 < variables s → blockOf s v .0 < s .blocks
   unfolding blockOf
   block-lt v h = div-lt-iff-lt-mul (ok .some-word) .1 h
+
+-- a variable is known by its block and its offset
+pub same-variable : (s : Setup) (v w : Variable) → blockOf s v ≡ blockOf s w → offsetOf s v ≡ offsetOf s w → v ≡ w
+unfolding blockOf offsetOf
+same-variable s v w e f =
+    variable-path
+    (sym (div-add-mod' (v .0) (s .words)) ∙ ap (λ (z : Block). z .0 * s .words + v .0 % s .words) e ∙ ap (λ z. w .0 / s .words * s .words + z) f
+    ∙ div-add-mod' (w .0) (s .words))

@@ -5,9 +5,9 @@ use native.Mathlib.Omega.{arith}
 use lib.ListN.{length, set, length-set, length-replicate}
 use lib.Seq.{length-sets}
 use lib.Dec.{ltb, eqb}
-use Rattle.protocol.specs.Lists.{at, zeros}
-use Rattle.protocol.specs.Board.{variables, slots, slot, wordIndex, memoryIndex, offsetOf, fetchPrice}
-use Rattle.protocol.specs.Tables.{Tables, tables, Sized, fresh, counter, block, lineWords, memoryWords, holds, marked}
+use Rattle.protocol.specs.Lists.{at}
+use Rattle.protocol.specs.Board.{variables, slots, slot, wordIndex, offsetOf}
+use Rattle.protocol.specs.Tables.{Tables, tables, Sized, fresh, counter, holds, marked}
 use Rattle.protocol.specs.Rules.{writtenBack, emptied, filled, saved, evicted, owner, released, fetched, obtained, payer, writtenAlone, updatedCopies, broadcast, charged, written}
 use Rattle.protocol.specs.Requests.{served, readied, target, isWrite, variableOf, newValue}
 use Rattle.protocol.specs.declared.Setup.{Setup}
@@ -54,28 +54,28 @@ module _ (s : Setup) (t : Tables) (z : Sized s t) where
   sized-writtenBack k = record {
     blocks = z .blocks;
     counters = z .counters;
-    marks = length-set (t .marks) k 0 ∙ z .marks;
+    marks = simp length-set (z .marks);
     words = z .words;
-    memory = length-sets (t .memory) (memoryIndex s (block t k) 0) (lineWords s t k) ∙ z .memory;
+    memory = simp length-sets (z .memory);
   }
 
   pub sized-emptied : (k : ℕ) → Sized s (emptied s t k)
   unfolding emptied
   sized-emptied k = record {
-    blocks = length-set (t .blocks) k 0 ∙ z .blocks;
-    counters = length-set (t .counters) k 0 ∙ z .counters;
-    marks = length-set (t .marks) k 0 ∙ z .marks;
-    words = length-sets (t .words) (wordIndex s k 0) (zeros (s .words)) ∙ z .words;
+    blocks = simp length-set (z .blocks);
+    counters = simp length-set (z .counters);
+    marks = simp length-set (z .marks);
+    words = simp length-sets (z .words);
     memory = z .memory;
   }
 
   pub sized-filled : (k : ℕ) (b : Block) → Sized s (filled s t k b)
   unfolding filled
   sized-filled k b = record {
-    blocks = length-set (t .blocks) k (b .0) ∙ z .blocks;
-    counters = length-set (t .counters) k (fetchPrice s) ∙ z .counters;
-    marks = length-set (t .marks) k 0 ∙ z .marks;
-    words = length-sets (t .words) (wordIndex s k 0) (memoryWords s t b) ∙ z .words;
+    blocks = simp length-set (z .blocks);
+    counters = simp length-set (z .counters);
+    marks = simp length-set (z .marks);
+    words = simp length-sets (z .words);
     memory = z .memory;
   }
 
@@ -91,9 +91,9 @@ module _ (s : Setup) (t : Tables) (z : Sized s t) where
   unfolding writtenAlone
   sized-writtenAlone k o x = record {
     blocks = z .blocks;
-    counters = length-set (t .counters) k (fetchPrice s) ∙ z .counters;
-    marks = length-set (t .marks) k 1 ∙ z .marks;
-    words = length-set (t .words) (wordIndex s k o) x ∙ z .words;
+    counters = simp length-set (z .counters);
+    marks = simp length-set (z .marks);
+    words = simp length-set (z .words);
     memory = z .memory;
   }
 
@@ -101,17 +101,17 @@ module _ (s : Setup) (t : Tables) (z : Sized s t) where
   unfolding broadcast
   sized-broadcast k b o x = record {
     blocks = z .blocks;
-    counters = length-set (t .counters) k (fetchPrice s) ∙ z .counters;
+    counters = simp length-set (z .counters);
     marks = z .marks;
-    words = length-updatedCopies s t b o x (s .processors) ∙ z .words;
-    memory = length-set (t .memory) (memoryIndex s b o) x ∙ z .memory;
+    words = simp length-updatedCopies (z .words);
+    memory = simp length-set (z .memory);
   }
 
   -- a counter changes
   pub sized-recounted : (k x : ℕ) → Sized s (tables (t .blocks) (set (t .counters) k x) (t .marks) (t .words) (t .memory))
   sized-recounted k x = record {
     blocks = z .blocks;
-    counters = length-set (t .counters) k x ∙ z .counters;
+    counters = simp length-set (z .counters);
     marks = z .marks;
     words = z .words;
     memory = z .memory;
@@ -136,7 +136,7 @@ module _ (s : Setup) (t : Tables) (z : Sized s t) where
   unfolding written
   sized-written i b o x =
       choice (Sized s) (ltb (payer s t i b) (s .processors))
-      (λ e. sized-charged s (broadcast s t (slot s i b) b o x) (sized-broadcast s t z (slot s i b) b o x) (slot s (payer s t i b) b))
+      (λ e. search (sized-charged s, sized-broadcast s))
       (λ e. sized-writtenAlone s t z (slot s i b) o x)
 
 pub sized-obtained : (s : Setup) (t : Tables) → Sized s t → (i : ℕ) (b : Block) → Sized s (obtained s t i b)

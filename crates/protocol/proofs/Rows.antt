@@ -56,16 +56,20 @@ module _ (s : Setup) (l : List ℕ) where
 
 -- ---- a row, of a table of n rows
 
-module _ (s : Setup) (l : List ℕ) (n : ℕ) (size : length l ≡ n * s .words) where
-  row-fits : (k : ℕ) → k < n → wordIndex s k 0 + s .words ≤ length l
-  unfolding wordIndex
-  row-fits k h = omega (arith, size, suc-mul k (s .words), mul-le-mul-right {m = suc k} {n = n} (s .words) h)
+-- row k of n rows of p ends within the table
+pub ends-within : (k n p : ℕ) → k < n → k * p + p ≤ n * p
+ends-within k n p h = omega (arith, suc-mul k p, mul-le-mul-right {m = suc k} {n = n} p h)
 
+pub row-end : (s : Setup) (k n : ℕ) → k < n → wordIndex s k 0 + s .words ≤ n * s .words
+unfolding wordIndex
+row-end s k n h = omega (arith, ends-within k n (s .words) h)
+
+module _ (s : Setup) (l : List ℕ) (n : ℕ) (size : length l ≡ n * s .words) where
   pub length-row : (k : ℕ) → k < n → length (part l (wordIndex s k 0) (s .words)) ≡ s .words
-  length-row k h = omega (arith, length-take (s .words) (drop (wordIndex s k 0) l), length-drop (wordIndex s k 0) l, row-fits k h)
+  length-row k h = omega (arith, length-take (s .words) (drop (wordIndex s k 0) l), length-drop (wordIndex s k 0) l, size, row-end s k n h)
 
   pub at-sets-row : (k : ℕ) (vs : List ℕ) (o : ℕ) → k < n → length vs ≡ s .words → o < s .words
       → at (sets l (wordIndex s k 0) vs) (wordIndex s k o) ≡ at vs o
   unfolding wordIndex
   at-sets-row k vs o h e u =
-      ap (at (sets l (wordIndex s k 0) vs)) (omega arith) ∙ at-sets-in vs l (wordIndex s k 0) o (omega arith) (omega (arith, row-fits k h))
+      ap (at (sets l (wordIndex s k 0) vs)) (omega arith) ∙ at-sets-in vs l (wordIndex s k 0) o (omega arith) (omega (arith, size, row-end s k n h))

@@ -49,11 +49,12 @@ priceRequestLimit = 1000000
 abbrev pub priceEntryLimit : ℕ
 priceEntryLimit = 4000000
 
-unfoldable pub priceRefusal : Setup → Rival → List Request → List Entry → ℕ
-priceRefusal s lent qs es =
+-- a schedule of n entries for m requests
+unfoldable pub priceRefusal : Setup → Rival → ℕ → ℕ → ℕ
+priceRefusal s lent n m =
     cond (inRange s)
     (cond (eqb (length (lent .blocks)) (slots s) && eqb (length (lent .held)) (slots s) && eqb (length (lent .marks)) (slots s))
-    (cond (leb (length qs) priceRequestLimit && leb (length es) priceEntryLimit) noRefusal tooMany) wrongLength) setupOutOfRange
+    (cond (leb m priceRequestLimit && leb n priceEntryLimit) noRefusal tooMany) wrongLength) setupOutOfRange
 
 -- ---- the answer: a cost, or a number and a place ("and no cost")
 
@@ -62,7 +63,9 @@ answerTo (accepted r c) = Accepted (cycles c)
 answerTo (refused n k) = Refused n k
 
 unfoldable pub price : Setup → Rival → List Request → List Entry → PriceAnswer
-price s lent qs es = cond (eqb (priceRefusal s lent qs es) noRefusal) (answerTo (verdict s qs es)) (Refused (priceRefusal s lent qs es) 0)
+price s lent qs es =
+    cond (eqb (priceRefusal s lent (length es) (length qs)) noRefusal) (answerTo (verdict s qs es))
+    (Refused (priceRefusal s lent (length es) (length qs)) 0)
 
 -- ---- the lent tables after it
 
@@ -73,7 +76,7 @@ copiesAfter s (refused n k) = noCopies s
 
 -- "A refusal by 1, 2, 5 … changes no buffer"; "Any later refusal of the pricer zeroes its tables"
 unfoldable pub priceTables : Setup → Rival → List Request → List Entry → Rival
-priceTables s lent qs es = cond (eqb (priceRefusal s lent qs es) noRefusal) (copiesAfter s (verdict s qs es)) lent
+priceTables s lent qs es = cond (eqb (priceRefusal s lent (length es) (length qs)) noRefusal) (copiesAfter s (verdict s qs es)) lent
 
 -- ---- the paper's number, place and cost for each case of the answer
 

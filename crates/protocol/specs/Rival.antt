@@ -3,9 +3,9 @@ use Prim.Native.Nat.{ℕ, zero, suc}
 use mathlib.Core.Path.{_≡_}
 use mathlib.Core.Bool.{Bool, true, false, not, _&&_, cond}
 use mathlib.Core.List.{List, [], _∷_}
-use lib.ListN.{set}
+use lib.ListN.{length, set}
 use lib.Dec.{ltb, eqb}
-use Rattle.protocol.specs.Lists.{at, zeros, other}
+use Rattle.protocol.specs.Lists.{at, zeros, tail, other}
 use Rattle.protocol.specs.Refusals.{noRefusal, noSuchProcessor, noSuchVariable, noSuchBlock, readByBroadcast, lineInUse, blockNotHeld, dropOfMarked, noRequestLeft, completionNotHeld, requestsLeft}
 use Rattle.protocol.specs.Board.{variables, slots, slot, fetchPrice, writeBackPrice}
 use Rattle.protocol.specs.Requests.{isWrite, variableOf, target}
@@ -28,6 +28,12 @@ pub record Rival : Type 0 where
 -- the rival of these three lists
 abbrev pub rival : List ℕ → List ℕ → List ℕ → Rival
 rival b h m = record { blocks = b; held = h; marks = m }
+
+-- 2, as facts: an entry for each slot
+pub record RivalSized (s : Setup) (r : Rival) : Type 0 where
+  pub blocks : length (r .blocks) ≡ slots s
+  pub held : length (r .held) ≡ slots s
+  pub marks : length (r .marks) ≡ slots s
 
 -- empty caches: "no line holds a block and nothing is marked"
 unfoldable pub noCopies : Setup → Rival
@@ -84,17 +90,13 @@ played s r qs (Drop i b) = rivalDropped s r i b
 played s r qs Complete = completedNext s r qs
 played s r qs CompleteByBroadcast = r
 
-abbrev pub rest : List Request → List Request
-rest [] = []
-rest (q ∷ qs) = qs
-
 -- the requests left after an entry
 abbrev pub left : List Request → Entry → List Request
 left qs (Fetch i b) = qs
 left qs (WriteBack i b) = qs
 left qs (Drop i b) = qs
-left qs Complete = rest qs
-left qs CompleteByBroadcast = rest qs
+left qs Complete = tail qs
+left qs CompleteByBroadcast = tail qs
 
 -- ---- what an entry costs
 

@@ -40,9 +40,12 @@ looked s blocks counters words i b =
 
 -- ---- a run
 
+-- its answer: n requests taken, refusal r at place k
+abbrev pub answered : ℕ → ℕ → ℕ → RunAnswer
+answered n r k = record { taken = n; refusal = r; place = k }
+
 -- what a run answers and leaves
 pub record Outcome : Type 0 where
-  -- the count taken, the refusal or none, and the refused place
   pub answer : RunAnswer
   pub tables : Tables
   pub account : Account
@@ -50,12 +53,12 @@ pub record Outcome : Type 0 where
 
 -- it ends here: refused by n, or by 0 at the list's end. "with no refusal … the place is 0"
 abbrev pub ended : ℕ → Tables → Account → List ℕ → Outcome
-ended n t a vs = record { answer = record { taken = 0; refusal = n; place = 0 }; tables = t; account = a; values = vs }
+ended n t a vs = record { answer = answered 0 n 0; tables = t; account = a; values = vs }
 
 -- one request more was taken before, with value x
 abbrev pub onward : ℕ → Outcome → Outcome
 onward x o = record {
-  answer = record { taken = suc (o .answer .taken); refusal = o .answer .refusal; place = cond (eqb (o .answer .refusal) noRefusal) 0 (suc (o .answer .place)) };
+  answer = answered (suc (o .answer .taken)) (o .answer .refusal) (cond (eqb (o .answer .refusal) noRefusal) 0 (suc (o .answer .place)));
   tables = o .tables;
   account = o .account;
   values = x ∷ o .values;

@@ -1,6 +1,6 @@
 -- The twelve sessions of document 01 and the cases beside them, as one table. proofs/Sessions proves that every row passes.
--- A row compares every entry of every table, the account, the answer and the values.
-use Prim.Native.Nat.{ℕ, _+_, _*_}
+-- A session compares the answer, the values, the account and every entry of every table with what the row says.
+use Prim.Native.Nat.{ℕ, _*_}
 use mathlib.Core.Bool.{Bool, true, false, _&&_, not, cond}
 use mathlib.Core.List.{List, [], _∷_}
 use lib.ListN.{length, replicate, set}
@@ -9,7 +9,7 @@ use lib.Dec.{eqb}
 use Rattle.protocol.specs.Board.{slots}
 use Rattle.protocol.specs.Tables.{Tables, tables, fresh}
 use Rattle.protocol.specs.Accounts.{freshAccount, entered}
-use Rattle.protocol.specs.Runs.{startRefusal, started, looked, Outcome, run}
+use Rattle.protocol.specs.Runs.{answered, startRefusal, started, looked, Outcome, run}
 use Rattle.protocol.specs.Rival.{Rival, rival}
 use Rattle.protocol.specs.Pricer.{price, priceTables, numberOf, placeOf, costOf}
 use Rattle.protocol.specs.declared.Setup.{Setup}
@@ -53,10 +53,6 @@ account n f g u = record { requests = n; fetch = f; «write_back» = g; update =
 -- fetch, write-back and update cycles
 abbrev pub cost : ℕ → ℕ → ℕ → Bill
 cost f g u = record { fetch = f; «write_back» = g; update = u }
-
--- the count taken, the refusal and the place
-abbrev pub answered : ℕ → ℕ → ℕ → RunAnswer
-answered n r k = record { taken = n; refusal = r; place = k }
 
 -- ---- what the tables hold
 
@@ -529,7 +525,7 @@ rows =
       lines = [];
       memory = [];
     })
-    -- 22 only with a request
+    -- 22 is checked for each request: an empty list meets none
     ∷ session (record {
       setup = usual;
       before = [];
@@ -698,7 +694,7 @@ rows =
       lines = copy 17 1 4 1 (0 ∷ 0 ∷ 3 ∷ 0 ∷ []) ∷ [];
       memory = cell 37 6 ∷ [];
     })
-    -- what a block takes with it is not what another gets
+    -- a block that was written back is fetched with the word that was written
     ∷ session (record {
       setup = usual;
       before = write 2 37 6 ∷ read 2 6 ∷ [];
@@ -824,7 +820,7 @@ rows =
     ∷ tabled (board 2 2 2 5) (tables (4 ∷ 3 ∷ 4 ∷ 0 ∷ []) (1 ∷ 2 ∷ 2 ∷ 0 ∷ []) (0 ∷ 1 ∷ 0 ∷ 0 ∷ [])
     (8 ∷ 9 ∷ 5 ∷ 6 ∷ 8 ∷ 9 ∷ 0 ∷ 0 ∷ [])
     (0 ∷ 0 ∷ 0 ∷ 0 ∷ 0 ∷ 0 ∷ 7 ∷ 7 ∷ 8 ∷ 1 ∷ [])) 20
-    -- a look at a held block, counter and mark whatever
+    -- a look at a held block, a marked one
     ∷ lent (record {
       setup = board 2 2 2 5;
       account = account 3 0 0 0;
@@ -1136,7 +1132,7 @@ rows =
       held = 1 ∷ 0 ∷ 0 ∷ 0 ∷ [];
       marks = 0 ∷ 0 ∷ 0 ∷ 0 ∷ [];
     })
-    -- no schedule for no request
+    -- the empty schedule, for no request
     ∷ quote (record {
       setup = board 2 2 3 5;
       requests = [];
@@ -1294,14 +1290,14 @@ rows =
     })
     -- 1: tables untouched
     ∷ quote (record {
-      setup = board 2 0 3 5;
+      setup = board 2 2 17 5;
       requests = write 1 10 5 ∷ [];
       entries = fetchEntry 1 3 ∷ [];
       number = 1;
       place = 0;
       cost = 0;
-      blocks = [];
-      held = [];
-      marks = [];
+      blocks = 7 ∷ 7 ∷ 7 ∷ 7 ∷ [];
+      held = 7 ∷ 7 ∷ 7 ∷ 7 ∷ [];
+      marks = 7 ∷ 7 ∷ 7 ∷ 7 ∷ [];
     })
     ∷ []
