@@ -24,7 +24,7 @@ pub struct Served {
     pub bill: Bill,
 }
 
-// On a miss a processor gets a block; on a hit nothing changes. The cycles.
+// On a miss a processor gets a block; on a hit nothing changes. Returns the cycles.
 fn obtain(
     setup: Setup,
     processor: u32,

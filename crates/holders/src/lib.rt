@@ -23,7 +23,7 @@ pub fn slot(setup: Setup, processor: u32, block: Block) -> usize
 }
 
 // Whether slot k holds a block.
-pub fn line_holds(k: usize, block: Block, blocks: &[u32], counters: &[u32]) -> bool
+fn line_holds(k: usize, block: Block, blocks: &[u32], counters: &[u32]) -> bool
     requires { ⌜ (k < length (now blocks)) × (k < length (now counters)) ⌝ }
     ensures { λ r. ⌜ ((m w g : List ℕ) → r ≡ holdsAt (tables (now (blocks .entry)) (now (counters .entry)) m w g) k block) ⌝ }
 {
@@ -88,10 +88,10 @@ fn owns(setup: Setup, block: Block, j: u32, blocks: &[u32], counters: &[u32], ma
     ensures { λ r. ⌜ ((w g : List ℕ) → r ≡ owns setup (tables (now (blocks .entry)) (now (counters .entry)) (now (marks .entry)) w g) block j) ⌝ }
 {
     let k = slot(setup, j, block);
-    if !line_holds(k, block, blocks, counters) {
+    if marks[k] != 1 {
         return false;
     }
-    marks[k] == 1
+    line_holds(k, block, blocks, counters)
 }
 
 // The processor that has a block marked; the number of processors where none has.

@@ -72,7 +72,7 @@ fn write_back(
     copy_row(setup, words, from, memory, block);
 }
 
-// Slot k is written back if it is marked. The cycles.
+// Slot k is written back if it is marked. Returns the cycles.
 fn save(
     setup: Setup,
     k: usize,
@@ -93,7 +93,7 @@ fn save(
     setup.write_back_price()
 }
 
-// The block at slot k leaves. The cycles.
+// The block at slot k leaves. Returns the cycles.
 pub fn evict(
     setup: Setup,
     k: usize,

@@ -99,7 +99,7 @@ fn write_shared(
     charge(setup, payer, blocks, counters, marks, words);
 }
 
-// A processor that holds a block writes a word of it. The update cycles.
+// A processor that holds a block writes a word of it. Returns the update cycles.
 pub fn write(
     setup: Setup,
     processor: u32,

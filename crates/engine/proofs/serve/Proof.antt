@@ -136,7 +136,7 @@ returns-2 c =
     let v = variable′ .ensures in
     let b = block-of′ .ensures in (
       rw e,
-      rw (← v, ← b, obtain′ .ensures .0, ← (obtain′ .ensures .1), write′ .ensures .0, e),
+      rw (← v, ← b, ← (obtain′ .ensures .1), e) (simp (obtain′ .ensures .0, write′ .ensures .0)),
       rw (← v, ← b, ← (offset-of′ .ensures), ← (obtain′ .ensures .1), e) (write′ .ensures .1),
     )
 

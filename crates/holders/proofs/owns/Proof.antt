@@ -1,6 +1,8 @@
 -- A block is marked where it is held and its slot is marked.
+use mathlib.Core.Bool.{and-false, and-true}
 use borrow.Author.Needs.{needs}
-use borrow.Author.Tests.{not-true, not-false}
+use borrow.Author.Tests.{eq-eqb, ne-eqb}
+use Rattle.protocol.specs.Lists.{at}
 use Rattle.protocol.specs.Tables.{holds, marked}
 use Rattle.holders.specs.Places.{owns}
 use Rattle.holders.proofs.owns.Statement.{statement}
@@ -9,35 +11,27 @@ use Rattle.holders.proofs.owns.Tie as tie
 slot-requires : tie.Need-slot-requires
 slot-requires c κs = search needs
 
-line-holds-requires : tie.Need-line-holds-requires
-line-holds-requires c κs = search needs
+mul-if1 : tie.Need-mul-if1
+mul-if1 c = search needs
+
+shared-slice-read-if1 : tie.Need-shared-slice-read-if1
+shared-slice-read-if1 c = search needs
 
 returns : tie.Need-returns
-unfolding owns holds
+unfolding owns holds marked
 returns c w g =
-    let slot′ = c .before .before .slot in
-    rw (← (slot′ .ensures .value), ← (c .before .line-holds .ensures _ w g), not-true (c .before .line-holds .result) (c .if1 .taken))
+    let slot′ = c .before .before in
+    let mark = at (slot′ .before .before .before .before .args .marks .now) (slot′ .slot .result) in
+    rw (← (slot′ .slot .ensures .value)) (simp (ne-eqb mark 1 (c .if1 .taken), and-false))
 
-mul-result : tie.Need-mul-result
-mul-result c = search needs
-
-shared-slice-read-result : tie.Need-shared-slice-read-result
-shared-slice-read-result c = search needs
+line-holds-requires : tie.Need-line-holds-requires
+line-holds-requires c κs = search needs
 
 returns-2 : tie.Need-returns-2
 unfolding owns holds marked
 returns-2 c w g =
-    let slot′ = c .before .before .before .slot in
-    let line-holds′ = c .before .before .line-holds in
-    rw (← (slot′ .ensures .value), ← (line-holds′ .ensures _ w g), not-false (line-holds′ .result) (c .before .if1 .left))
+    rw (← (c .before .before .before .slot .ensures .value), ← (c .line-holds .ensures _ w g))
+    (simp (eq-eqb _ _ (c .before .if1 .left), and-true))
 
 pub owns-spec : {M : Type 1} → statement M
-owns-spec =
-    tie.close
-    (tie.spec
-    slot-requires
-    line-holds-requires
-    returns
-    mul-result
-    shared-slice-read-result
-    returns-2)
+owns-spec = tie.close (tie.spec slot-requires mul-if1 shared-slice-read-if1 returns line-holds-requires returns-2)

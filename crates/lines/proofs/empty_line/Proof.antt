@@ -3,7 +3,7 @@ use borrow.Author.Needs.{needs}
 use native.Mathlib.Omega.{arith}
 use Rattle.protocol.specs.Board.{slots}
 use Rattle.protocol.specs.Rules.{emptied}
-use Rattle.holders.proofs.Rows.{row-end}
+use Rattle.protocol.proofs.Rows.{row-end}
 use Rattle.lines.proofs.empty_line.Statement.{statement}
 use Rattle.lines.proofs.empty_line.Tie as tie
 

@@ -4,7 +4,7 @@ use native.Mathlib.Omega.{arith}
 use Rattle.protocol.specs.Board.{slots}
 use Rattle.protocol.specs.Tables.{memoryWords}
 use Rattle.protocol.specs.Rules.{filled}
-use Rattle.holders.proofs.Rows.{row-end}
+use Rattle.protocol.proofs.Rows.{row-end}
 use Rattle.lines.proofs.fill.Statement.{statement}
 use Rattle.lines.proofs.fill.Tie as tie
 

@@ -6,7 +6,7 @@ use Rattle.protocol.specs.Lists.{at}
 use Rattle.protocol.specs.Board.{slots}
 use Rattle.protocol.specs.Tables.{lineWords}
 use Rattle.protocol.specs.Rules.{writtenBack}
-use Rattle.holders.proofs.Rows.{row-end}
+use Rattle.protocol.proofs.Rows.{row-end}
 use Rattle.lines.proofs.write_back.Statement.{statement}
 use Rattle.lines.proofs.write_back.Tie as tie
 

@@ -43,7 +43,7 @@ returns c m =
     let update-copies′ = c .before .before .before .before .before .before .before .before .update-copies in
     let start = c .before .before .before .before .before .before .before .before .before .before .before .before .before .before .before in
     let set-word′ = c .before .before .before .set-word in
-    rw (update-copies′ .ensures m (now (start .args .memory)), set-word′ .ensures, c .fetch-price .ensures)
+    simp (update-copies′ .ensures m (now (start .args .memory)), set-word′ .ensures, c .fetch-price .ensures)
 
 pub broadcast-spec : {M : Type 1} → statement M
 broadcast-spec =

@@ -1,5 +1,7 @@
 -- The payer holds the block, so its counter is at least 1.
 use borrow.Author.Needs.{needs}
+use Prim.Native.Nat.{_≤_}
+use native.Mathlib.Omega.{arith}
 use borrow.Author.Tests.{lt-ltb, le-ltb}
 use denote.Ref.{now}
 use Rattle.protocol.specs.Tables.{tables}
@@ -39,7 +41,8 @@ returns c =
     let write-alone′ = c .before .before .before .before .before .before .write-alone in
     let a = start .args in
     let p = payer′ .ensures (now (a .marks)) (now (a .words)) (now (a .memory)) in
-    let l = le-ltb (payer′ .result) (a .setup .processors) (if1′ .taken) in
+    let alone : a .setup .processors ≤ payer′ .result = omega (arith, if1′ .taken) in
+    let l = le-ltb (payer′ .result) (a .setup .processors) alone in
     (rw (← p, l), rw (← p, l, ← (slot′ .ensures .value)) (write-alone′ .ensures (now (a .blocks)) (now (a .memory))))
 
 slot-requires-2 : tie.Need-slot-requires-2

@@ -42,7 +42,7 @@ unfolding writtenAlone
 returns c b g =
     let set-word′ = c .before .before .set-word in
     let fetch-price′ = c .before .before .before .before .fetch-price in
-    rw (set-word′ .ensures, fetch-price′ .ensures)
+    simp (set-word′ .ensures, fetch-price′ .ensures)
 
 pub write-alone-spec : {M : Type 1} → statement M
 write-alone-spec =
