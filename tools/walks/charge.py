@@ -1,7 +1,7 @@
 """The text of the walk of a function that counts into a lent struct, and of a call of it that gives the struct up for good.
 
     pub fn charge(account: &mut Account, growth: Growth)
-        requires { ⌜ Room (now account) growth ⌝ }
+        requires { ⌜ GrowthFits (now account) growth ⌝ }
         ensures { λ _. ⌜ now (account .exit) ≡ grown (now (account .entry)) growth ⌝ }
     {
         *account = counted(*account, growth);

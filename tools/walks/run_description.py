@@ -31,7 +31,7 @@ begin = Callee(HERE, KIT, 'steps', 'begin', 'Begin', [('setup', Setup)] + slices
                'begun setup %s account count values' % lent, None, [TABLES_SPEC, ('steps', 'Steps', ['begun'])])
 turn = Callee(HERE, KIT, 'steps', 'turn', 'Turn', [('setup', Setup)] + slices + [('p', Progress), ('request', Request)], Progress, 'mut',
               'turned setup %s request' % here, 'Ready setup %s' % here, [('steps', 'Steps', ['Stage', 'stage', 'Ready', 'turned'])], stage)
-charge = Charge(KIT, HERE, 'charge', 'Charge', (HERE, 'counted'), Account, Account, 'Fair', 'grown', [(HERE, 'Outcomes', ['grown', 'Room as Fair'])])
+charge = Charge(KIT, HERE, 'charge', 'Charge', (HERE, 'counted'), Account, Account, 'GrowthFits', 'grown', [(HERE, 'Outcomes', ['grown', 'GrowthFits'])])
 growth = Plain(HERE, HERE, 'growth', 'Growth', ('p', Progress), Account, 'growthOf p', 'p .answer .taken < 2 ^ 32', [(HERE, 'Outcomes', ['growthOf'])])
 
 inv = 'setup %s account requests values' % lent

@@ -3,7 +3,7 @@
 --     inv-start       before the first request.        inv-turn, inv-falls     a turn.        inv-room, inv-end     after the loop
 -- Assumes nothing.
 use mathlib.Core.Path.{_≡_, refl, sym, _∙_, ap, subst}
-use mathlib.Core.Bool.{Bool, true, false, _&&_, cond}
+use mathlib.Core.Bool.{Bool, true, false, cond}
 use mathlib.Core.List.{List, [], _∷_, _++_}
 use Prim.Native.Nat.{ℕ, suc, _+_, _-_, _<_, _≤_, _^_}
 use native.Mathlib.Numerals.{add-one}
@@ -13,21 +13,19 @@ use lib.Seq.{length-take-le, drop-cons, take-suc-set, drop-set-lt}
 use lib.Dec.{ltb, eqb}
 use borrow.Author.Tests.{ltb-false, eqb-true}
 use Rattle.protocol.specs.Lists.{tail}
-use Rattle.protocol.specs.Refusals.{noRefusal, setupOutOfRange, wrongLength, unsoundTables, impossibleAccount}
-use Rattle.protocol.specs.Board.{inRange}
-use Rattle.protocol.specs.Tables.{Tables, sized}
-use Rattle.protocol.specs.Soundness.{sound}
+use Rattle.protocol.specs.Refusals.{noRefusal}
+use Rattle.protocol.specs.Tables.{Tables}
 use Rattle.protocol.specs.Requests.{served, value, bill}
-use Rattle.protocol.specs.Accounts.{nothing, entered, possible}
-use Rattle.protocol.specs.Runs.{Outcome, ended, onward, walk, runRefusal, run}
+use Rattle.protocol.specs.Accounts.{nothing, entered}
+use Rattle.protocol.specs.Runs.{answered, Outcome, ended, onward, walk, runRefusal, run}
 use Rattle.protocol.specs.declared.Setup.{Setup}
 use Rattle.protocol.specs.declared.Operation.the-variants.{Read}
 use Rattle.protocol.specs.declared.Request.{Request}
 use Rattle.protocol.specs.declared.Account.{Account}
 use Rattle.protocol.proofs.Accounts.{account-path}
-use Rattle.steps.specs.Steps.{Room as Fits-in, stops, begun, Stage, Ready, taken, refused, nextRefusal, turned}
-use Rattle.steps.proofs.Laws.{ready-begun, ready-turned, room-turned}
-use Rattle.run.specs.Outcomes.{grown, Room, growthOf, outcome}
+use Rattle.steps.specs.Steps.{Room, begun, Stage, Ready, taken, refused, nextRefusal, turned}
+use Rattle.steps.proofs.Laws.{run-passed, both-going, ready-begun, ready-turned, room-turned}
+use Rattle.run.specs.Outcomes.{grown, GrowthFits, growthOf, outcome}
 
 -- what a list has outside
 abbrev pub no-request : Request
@@ -49,7 +47,7 @@ preceded-one (y ∷ xs) x o = ap (onward y) (preceded-one xs x o)
 
 -- k requests were taken, and the next is refused by n, or there is none and n is 0
 abbrev halted : ℕ → ℕ → Tables → Account → List ℕ → Outcome
-halted k n t a vs = outcome (stops k n (cond (eqb n noRefusal) 0 k)) t a vs
+halted k n t a vs = outcome (answered k n (cond (eqb n noRefusal) 0 k)) t a vs
 
 first-place : (y : Bool) → _≡_ {A = ℕ} 0 (cond y 0 0)
 first-place true = refl
@@ -60,9 +58,9 @@ next-place true k = refl
 next-place false k = refl
 
 preceded-ended : (xs : List ℕ) (n : ℕ) (t : Tables) (a : Account) (vs : List ℕ) → preceded xs (ended n t a vs) ≡ halted (length xs) n t a (xs ++ vs)
-preceded-ended [] n t a vs = ap (λ (k : ℕ). outcome (stops 0 n k) t a vs) (first-place (eqb n noRefusal))
+preceded-ended [] n t a vs = ap (λ (k : ℕ). outcome (answered 0 n k) t a vs) (first-place (eqb n noRefusal))
 preceded-ended (x ∷ xs) n t a vs =
-    ap (onward x) (preceded-ended xs n t a vs) ∙ ap (λ (k : ℕ). outcome (stops (suc (length xs)) n k) t a (x ∷ (xs ++ vs))) (next-place (eqb n noRefusal) (length xs))
+    ap (onward x) (preceded-ended xs n t a vs) ∙ ap (λ (k : ℕ). outcome (answered (suc (length xs)) n k) t a (x ∷ (xs ++ vs))) (next-place (eqb n noRefusal) (length xs))
 
 -- ---- a stage
 
@@ -87,7 +85,7 @@ halts x n h =
     ∙ ap (halted (x .progress .answer .taken) n (x .tables) (now-account x)) (take-append-drop (x .progress .answer .taken) (x .values))
 
 -- a stage that goes on just where there is a request left
-settled : (s : Setup) (x : Stage) (l : List Request) (y : Bool) → x .progress .answer ≡ stops (x .progress .answer .taken) noRefusal 0 → x .progress .answer .taken ≤ length (x .values) → (y ≡ false → l ≡ [])
+settled : (s : Setup) (x : Stage) (l : List Request) (y : Bool) → x .progress .answer ≡ answered (x .progress .answer .taken) noRefusal 0 → x .progress .answer .taken ≤ length (x .values) → (y ≡ false → l ≡ [])
     → cond y (go-on s x l) (stop-at x) ≡ go-on s x l
 settled s x l true z h f = refl
 settled s x l false z h f = ap (λ (r : _). outcome r (x .tables) (now-account x) (x .values)) z ∙ sym (halts x noRefusal h) ∙ sym (ap (go-on s x) (f refl))
@@ -95,20 +93,6 @@ settled s x l false z h f = ap (λ (r : _). outcome r (x .tables) (now-account x
 empty : (l : List Request) → length l ≤ 0 → l ≡ []
 empty [] h = refl
 empty (x ∷ xs) h = absurd (omega arith)
-
--- what it says that a run is not refused at its start: the lengths pass
-lengths-pass : (b₁ b₂ b₃ b₄ : Bool) → _≡_ {A = ℕ} (cond b₁ (cond b₂ (cond b₃ (cond b₄ noRefusal impossibleAccount) unsoundTables) wrongLength) setupOutOfRange) noRefusal → b₂ ≡ true
-lengths-pass b₁ true b₃ b₄ e = refl
-lengths-pass true false b₃ b₄ e = let z : _≡_ {A = ℕ} 2 0 = e in absurd (omega arith)
-lengths-pass false false b₃ b₄ e = let z : _≡_ {A = ℕ} 1 0 = e in absurd (omega arith)
-
-second : (b c : Bool) → (b && c) ≡ true → c ≡ true
-second true c e = e
-second false c e = let z : _≡_ {A = ℕ} 0 1 = cc in absurd (omega arith)
-
-passes : (b c : Bool) → cond b c false ≡ true → b ≡ true
-passes true c e = refl
-passes false c e = let z : _≡_ {A = ℕ} 0 1 = cc in absurd (omega arith)
 
 tail-drop : (l : List ℕ) (k : ℕ) → k < length l → tail (drop k l) ≡ drop (k + 1) l
 tail-drop l k h = ap tail (drop-cons l k 0 h) ∙ ap (λ (j : ℕ). drop j l) (sym (add-one k))
@@ -125,7 +109,7 @@ module _ (s : Setup) (t : Tables) (a : Account) (qs : List Request) (vs : List �
   pub record Inv (x : Stage) : Type 0 where
     pub same : result x ≡ run s t a qs vs
     pub before : x .progress .account ≡ a
-    pub room : Fits-in (x .progress .account) (x .progress .answer .taken) (x .progress .bill)
+    pub room : Room (x .progress .account) (x .progress .answer .taken) (x .progress .bill)
     pub goes : x .progress .going ≡ true → Goes x
 
   -- what falls with each turn
@@ -138,7 +122,7 @@ module _ (s : Setup) (t : Tables) (a : Account) (qs : List Request) (vs : List �
   N = runRefusal s t a (length qs) vs
 
   abbrev x₀ : ℕ → Bool → Stage
-  x₀ n y = record { progress = record { going = y; account = a; bill = nothing; answer = stops 0 n 0 }; tables = t; values = vs }
+  x₀ n y = record { progress = record { going = y; account = a; bill = nothing; answer = answered 0 n 0 }; tables = t; values = vs }
 
   same-account : entered a 0 nothing ≡ a
   same-account = account-path (omega arith) (omega arith) (omega arith) (omega arith)
@@ -150,12 +134,8 @@ module _ (s : Setup) (t : Tables) (a : Account) (qs : List Request) (vs : List �
       ∙ ap (λ (c : Account). walk s t c qs vs) same-account
   begins false e z i = ap (λ (c : Account). ended N t c vs) same-account
 
-  fits-fresh : Small a → Fits-in a 0 nothing
+  fits-fresh : Small a → Room a 0 nothing
   fits-fresh h = record { requests = omega (arith, h .0); fetch = omega (arith, h .1 .0); write-back = omega (arith, h .1 .1 .0); update = omega (arith, h .1 .1 .1) }
-
-  as-many : eqb N noRefusal ≡ true → length vs ≡ length qs
-  unfolding runRefusal
-  as-many e = eqb-true (length vs) (length qs) (second (sized s t) (eqb (length vs) (length qs)) (lengths-pass (inRange s) (sized s t && eqb (length vs) (length qs)) (sound s t) (possible s a) (eqb-true N noRefusal e)))
 
   pub inv-start : Small a → Inv (record { progress = begun s t a (length qs) vs; tables = t; values = vs })
   unfolding begun run
@@ -163,7 +143,7 @@ module _ (s : Setup) (t : Tables) (a : Account) (qs : List Request) (vs : List �
     same = begins (eqb N noRefusal) refl (ltb 0 (length qs)) refl;
     before = refl;
     room = fits-fresh h;
-    goes = λ go. record { ready = ready-begun s t a (length qs) vs (fits-fresh h) go; as-many = as-many (passes (eqb N noRefusal) (ltb 0 (length qs)) go) };
+    goes = λ go. record { ready = ready-begun s t a (length qs) vs (fits-fresh h) go; as-many = run-passed s t a (length qs) vs (eqb-true N noRefusal (both-going (eqb N noRefusal) (ltb 0 (length qs)) go .0)) .values };
   }
 
   -- ---- a turn
@@ -219,7 +199,7 @@ module _ (s : Setup) (t : Tables) (a : Account) (qs : List Request) (vs : List �
         ∙ ap (λ (l : List ℕ). preceded (take k (x .values)) (onward v (onward-from (now-account (taken s x q)) l))) rest-of-values
         ∙ ap (λ (c : Account). preceded (take k (x .values)) (onward v (onward-from c (tail (drop k (x .values)))))) same-growth
     turns false e =
-        ap (λ (y : Bool). outcome (stops k n (cond y 0 k)) (x .tables) (now-account x) (x .values)) (sym e)
+        ap (λ (y : Bool). outcome (answered k n (cond y 0 k)) (x .tables) (now-account x) (x .values)) (sym e)
         ∙ sym (halts x n (let h : k < length (x .values) = in-values in omega arith))
 
     as-long : (y : Bool) → length (cond y (taken s x q) (refused n x) .values) ≡ length qs
@@ -262,8 +242,8 @@ module _ (s : Setup) (t : Tables) (a : Account) (qs : List Request) (vs : List �
 
   -- ---- at the end
 
-  pub inv-room : (x : Stage) → Inv x → Room a (growthOf (x .progress))
-  inv-room x i = subst (λ (c : Account). Room c (growthOf (x .progress))) (i .before) (record { requests = i .room .requests; fetch = i .room .fetch; write-back = i .room .write-back; update = i .room .update })
+  pub inv-room : (x : Stage) → Inv x → GrowthFits a (growthOf (x .progress))
+  inv-room x i = subst (λ (c : Account). GrowthFits c (growthOf (x .progress))) (i .before) (record { requests = i .room .requests; fetch = i .room .fetch; write-back = i .room .write-back; update = i .room .update })
 
   pub inv-count : (x : Stage) → Inv x → x .progress .answer .taken < 2 ^ 32
   inv-count x i = let h : x .progress .account .requests + x .progress .answer .taken < 2 ^ 32 = i .room .requests in omega arith

@@ -5,7 +5,7 @@ use Rattle.protocol.specs.Tables.{Tables}
 use Rattle.protocol.specs.Runs.{Outcome}
 use Rattle.protocol.specs.declared.Account.{Account}
 use Rattle.protocol.specs.declared.RunAnswer.{RunAnswer}
-use Rattle.steps.specs.Steps.{Room as Fitting}
+use Rattle.steps.specs.Steps.{Room}
 use Rattle.steps.specs.declared.Progress.{Progress}
 
 -- the account after what a run adds to it
@@ -18,8 +18,8 @@ grown a g = record {
 }
 
 -- the sums fit
-abbrev pub Room : Account → Account → Type 0
-Room a g = Fitting a (g .requests) (record { fetch = g .fetch; «write_back» = g .«write_back»; update = g .update })
+abbrev pub GrowthFits : Account → Account → Type 0
+GrowthFits a g = Room a (g .requests) (record { fetch = g .fetch; «write_back» = g .«write_back»; update = g .update })
 
 -- what a run that got so far adds to the account
 abbrev pub growthOf : Progress → Account

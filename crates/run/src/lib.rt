@@ -8,7 +8,7 @@ ghost use mathlib.Core.Path.{_≡_};
 ghost use Rattle.protocol.specs.Tables.{tables};
 ghost use Rattle.protocol.specs.Runs.{run as ran};
 ghost use Prim.Native.Nat.{_<_, _^_};
-ghost use Rattle.run.specs.Outcomes.{grown, Room, growthOf, outcome};
+ghost use Rattle.run.specs.Outcomes.{grown, GrowthFits, growthOf, outcome};
 
 // What a run adds to the account so far.
 pub fn growth(p: Progress) -> Account
@@ -27,7 +27,7 @@ pub fn growth(p: Progress) -> Account
 
 // The counting step.
 pub fn counted(account: Account, growth: Account) -> Account
-    requires { ⌜ Room account growth ⌝ }
+    requires { ⌜ GrowthFits account growth ⌝ }
     ensures { λ r. ⌜ r ≡ grown account growth ⌝ }
 {
     Account {
@@ -40,7 +40,7 @@ pub fn counted(account: Account, growth: Account) -> Account
 
 // The account is lent: the counting step, where it is.
 pub fn charge(account: &mut Account, growth: Account)
-    requires { ⌜ Room (now account) growth ⌝ }
+    requires { ⌜ GrowthFits (now account) growth ⌝ }
     ensures { λ _. ⌜ now (account .exit) ≡ grown (now (account .entry)) growth ⌝ }
 {
     *account = counted(*account, growth);

@@ -86,7 +86,7 @@ usable-sound s f t d = record { lengths = d .lengths; named = λ k. go k (decLt 
 
 -- ---- a run that goes on is ready
 
-both-going : (c x : Bool) → cond c x false ≡ true → (c ≡ true) × (x ≡ true)
+pub both-going : (c x : Bool) → cond c x false ≡ true → (c ≡ true) × (x ≡ true)
 both-going true x e = (refl, e)
 both-going false x e = absurd (true≢false (sym e))
 

@@ -10,13 +10,12 @@ use Rattle.protocol.specs.Board.{Fits}
 use Rattle.protocol.specs.Tables.{Tables, tables}
 use Rattle.protocol.specs.Requests.{served, value, bill, requestRefusal}
 use Rattle.protocol.specs.Accounts.{nothing, plus, possible}
-use Rattle.protocol.specs.Runs.{runRefusal}
+use Rattle.protocol.specs.Runs.{answered, runRefusal}
 use Rattle.engine.specs.Usable.{Usable}
 use Rattle.protocol.specs.declared.Setup.{Setup}
 use Rattle.protocol.specs.declared.Request.{Request}
 use Rattle.protocol.specs.declared.Bill.{Bill}
 use Rattle.protocol.specs.declared.Account.{Account}
-use Rattle.protocol.specs.declared.RunAnswer.{RunAnswer}
 use Rattle.steps.specs.declared.Progress.{Progress}
 
 -- ---- sums that fit
@@ -36,17 +35,13 @@ pub record Sums (c d : Bill) : Type 0 where
 
 -- ---- before the first request
 
--- the answer of a run that took n requests and stops here, refused by r or not
-abbrev pub stops : ℕ → ℕ → ℕ → RunAnswer
-stops n r k = record { taken = n; refusal = r; place = k }
-
 -- a run of n requests before its first one: 1, 2, 20, 21
 unfoldable pub begun : Setup → Tables → Account → ℕ → List ℕ → Progress
 begun s t a n vs = record {
   going = cond (eqb (runRefusal s t a n vs) noRefusal) (ltb 0 n) false;
   account = a;
   bill = nothing;
-  answer = stops 0 (runRefusal s t a n vs) 0;
+  answer = answered 0 (runRefusal s t a n vs) 0;
 }
 
 -- ---- between two requests
@@ -79,11 +74,11 @@ pub record Ready (s : Setup) (x : Stage) : Type 0 where
 
 -- the run stops at a request refused by n
 abbrev pub stopped : ℕ → Progress → Progress
-stopped n p = record { going = false; account = p .account; bill = p .bill; answer = stops (p .answer .taken) n (p .answer .taken) }
+stopped n p = record { going = false; account = p .account; bill = p .bill; answer = answered (p .answer .taken) n (p .answer .taken) }
 
 -- it took k of n requests, the last with bill c
 abbrev pub advanced : ℕ → ℕ → Bill → Progress → Progress
-advanced k n c p = record { going = ltb k n; account = p .account; bill = plus (p .bill) c; answer = stops k noRefusal 0 }
+advanced k n c p = record { going = ltb k n; account = p .account; bill = plus (p .bill) c; answer = answered k noRefusal 0 }
 
 -- the request is served: its value at its position, its bill added
 abbrev pub taken : Setup → Stage → Request → Stage

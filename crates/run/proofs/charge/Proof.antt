@@ -39,7 +39,7 @@ use denote.Exit.{yes}
 use Rattle.protocol.specs.declared.Account.{Account}
 use Rattle.protocol.proofs.Account as Account-t
 use Rattle.protocol.proofs.Account.Laws as Account-l
-use Rattle.run.specs.Outcomes.{grown, Room as Fair}
+use Rattle.run.specs.Outcomes.{grown, GrowthFits}
 use Rattle.run.proofs.counted as counted
 use Rattle.run.proofs.counted.Symbol as counted-def
 use Rattle.run.proofs.counted.Symbol.{name as #run·counted}
@@ -84,13 +84,13 @@ module _ {M : Type 1} (𝓤 : URA M) (H : Heap 𝓤) (A : Atoms 𝓤) (W : Given
   abbrev to : Counted 𝓤 H A mem run″ .Ghost
   to = ((tt, tt, tt, (h, (n, tt)), ((LL.vals Account-t.the-type Account-l.the-laws h), ((LL.vals Account-t.the-type Account-l.the-laws n), tt))), tt)
 
-  asked : Fair h n → Is Account-t.the-row h (LL.vals Account-t.the-type Account-l.the-laws h) → ent 𝓤 (emp 𝓤) (Counted 𝓤 H A mem run″ .pre to)
+  asked : GrowthFits h n → Is Account-t.the-row h (LL.vals Account-t.the-type Account-l.the-laws h) → ent 𝓤 (emp 𝓤) (Counted 𝓤 H A mem run″ .pre to)
   asked room h-is =
       qed W [] ∵ says ! room $ nothing ! $ frame ! $ nothing ! $ owned ! Account-t.the-row (Is Account-t.the-row) (LL.makes Account-t.the-type Account-l.the-plain 𝓤 H A) n _ n-is $ fjoin ! $
       owned ! Account-t.the-row (Is Account-t.the-row) (LL.makes Account-t.the-type Account-l.the-plain 𝓤 H A) h _ h-is $ fjoin ! $ done !
 
   module _ (C : Calls 𝓤 H) (Λ : Loops 𝓤 H) (fm : FmC 𝓤 H (W .laws) C) (known : Triple 𝓤 (C #run·counted) (Counted 𝓤 H A mem run″)) where
-    walk : Fair h n → ent 𝓤 (onEntry 𝓤 H A charge.signature (κ, tt) (q, tt) x at) (WpFn 𝓤 H C Λ code.function (vptr b o ∷ (LL.val Account-t.the-type Account-l.the-laws n) ∷ []) Post)
+    walk : GrowthFits h n → ent 𝓤 (onEntry 𝓤 H A charge.signature (κ, tt) (q, tt) x at) (WpFn 𝓤 H C Λ code.function (vptr b o ∷ (LL.val Account-t.the-type Account-l.the-laws n) ∷ []) Post)
     walk room =
         qed W ((‵ (flft κ q) ⊛ ‵ ftrue) ∷ ‵ (owns (MutRef (named 0) κ Account-t.the-row ∷ Account-t.the-row ∷ []) x at) ∷ []) ∵ enter ! C Λ code.function (vptr b o ∷ (LL.val Account-t.the-type Account-l.the-laws n) ∷ []) _ $
         alloc1 ! (λ l₀. alloc1 ! (λ l₁. alloc1 ! (λ l₂. alloc1 ! (λ l₃. alloc1 ! (λ l₄. alloc0 ! $ params1 ! $ pass1 ! (init ! 6 refl (tt, tt)) $
@@ -117,7 +117,7 @@ module _ {M : Type 1} (𝓤 : URA M) (H : Heap 𝓤) (A : Atoms 𝓤) (W : Given
 module _ {M : Type 1} (𝓤 : URA M) (H : Heap 𝓤) (A : Atoms 𝓤) (W : Given 𝓤 H A) (mem : Memory → SProp 𝓤) (run″ : Routine → Fun 𝓤) where
   charge-walks : (C : Calls 𝓤 H) (Λ : Loops 𝓤 H) → FmC 𝓤 H (W .laws) C → Triple 𝓤 (C #run·counted) (Counted 𝓤 H A mem run″) → Walks 𝓤 H A charge.ended stayed (WpFn 𝓤 H C Λ code.function) (charge.clauses 𝓤 H A mem run″)
   charge-walks C Λ fm known = walked 𝓤 H A charge.ended stayed (charge.clauses 𝓤 H A mem run″) (WpFn 𝓤 H C Λ code.function) (λ κs. (ptr-vals, ((LL.vals Account-t.the-type Account-l.the-laws), tt))) (λ κs. (mut-tells (named 0) (κs .0) Account-t.the-row, ((LL.tells Account-t.the-type Account-l.the-laws), tt)))
-      (λ κs qs bounds a g are. needs 𝓤 (Fair (a .0 .now) (a .1 .0)) _ (λ room. walk 𝓤 H A W mem run″ (κs .0) (qs .0) (a .0 .ptr .0) (a .0 .ptr .1) (a .0 .name) (a .0 .now) (a .1 .0) (are .1 .0) C Λ fm known room))
+      (λ κs qs bounds a g are. needs 𝓤 (GrowthFits (a .0 .now) (a .1 .0)) _ (λ room. walk 𝓤 H A W mem run″ (κs .0) (qs .0) (a .0 .ptr .0) (a .0 .ptr .1) (a .0 .name) (a .0 .now) (a .1 .0) (are .1 .0) C Λ fm known room))
 
 charge-meets : {M : Type 1} (𝓤 : URA M) (H : Heap 𝓤) (A : Atoms 𝓤) → Given 𝓤 H A → (mem : Memory → SProp 𝓤) (run″ : Routine → Fun 𝓤) (𝓣 : Tables 𝓤 H) → Triple 𝓤 (𝓣 .C #run·counted) (Counted 𝓤 H A mem run″)
     → Meets 𝓤 H A charge.signature (WpFn 𝓤 H (𝓣 .C) (𝓣 .Λ) code.function) (charge.spec 𝓤 H A mem run″)

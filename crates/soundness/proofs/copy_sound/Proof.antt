@@ -6,7 +6,7 @@ use Rattle.protocol.specs.Lists.{at}
 use Rattle.protocol.specs.Board.{slots, wordIndex}
 use Rattle.protocol.specs.Rules.{payer}
 use Rattle.protocol.specs.Soundness.{copyLine}
-use Rattle.holders.proofs.Rows.{row-end}
+use Rattle.protocol.proofs.Rows.{row-end}
 use borrow.Author.Needs.{needs}
 use Rattle.soundness.proofs.copy_sound.Statement.{statement}
 use Rattle.soundness.proofs.copy_sound.Tie as tie

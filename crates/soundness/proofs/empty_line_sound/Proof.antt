@@ -2,7 +2,7 @@ use native.Mathlib.Omega.{arith}
 use borrow.Author.Tests.{eq-eqb, ne-eqb}
 use Rattle.protocol.specs.Board.{slots, wordIndex}
 use Rattle.protocol.specs.Soundness.{emptyLine}
-use Rattle.holders.proofs.Rows.{row-end}
+use Rattle.protocol.proofs.Rows.{row-end}
 use borrow.Author.Needs.{needs}
 use Rattle.soundness.proofs.empty_line_sound.Statement.{statement}
 use Rattle.soundness.proofs.empty_line_sound.Tie as tie

@@ -1,4 +1,4 @@
-use mathlib.Core.Path.{sym, _∙_}
+use mathlib.Core.Path.{_≡_}
 use native.Mathlib.Omega.{arith}
 use borrow.Author.Tests.{eq-eqb, ne-eqb, lt-leb, le-leb, lt-ltb, le-ltb}
 use denote.Ref.{now}
@@ -82,11 +82,13 @@ line-of-requires c κs = search needs
 returns-4 : tie.Need-returns-4
 unfolding soundLine
 returns-4 c =
+    let a = c .before .before .before .before .before .before .before .before .before .before .before .before .before .before .before .before .args in
     rw (
+      ← c .before .line-of .ensures,
       ne-eqb _ _ (c .before .before .before .before .before .before .before .before .if1 .left),
       le-leb _ _ (rw (c .before .before .before .before .before .before .fetch-price .ensures) at (c .before .before .before .before .before .if2 .left)),
       lt-ltb _ _ (c .before .before .if3 .left),
-      ne-eqb _ _ (λ e. c .if4 .taken (c .before .line-of .ensures ∙ e)),
+      ne-eqb (c .before .line-of .result) (a .l) (λ (e : c .before .line-of .result ≡ a .l). omega (arith, c .if4 .taken)),
     )
 
 copy-sound-requires : tie.Need-copy-sound-requires
@@ -97,11 +99,13 @@ copy-sound-requires c κs =
 returns-5 : tie.Need-returns-5
 unfolding soundLine
 returns-5 c =
+    let a = c .before .before .before .before .before .before .before .before .before .before .before .before .before .before .before .before .before .args in
     rw (
+      ← c .before .before .line-of .ensures,
       ne-eqb _ _ (c .before .before .before .before .before .before .before .before .before .if1 .left),
       le-leb _ _ (rw (c .before .before .before .before .before .before .before .fetch-price .ensures) at (c .before .before .before .before .before .before .if2 .left)),
       lt-ltb _ _ (c .before .before .before .if3 .left),
-      eq-eqb _ _ (sym (c .before .before .line-of .ensures) ∙ c .before .if4 .left),
+      eq-eqb (c .before .before .line-of .result) (a .l) (omega (arith, c .before .if4 .left)),
     )
     (c .copy-sound .ensures)
 

@@ -1,3 +1,8 @@
+use mathlib.Core.Path.{ap}
+use lib.Dec.{ltb}
+use Rattle.protocol.specs.Refusals.{noRefusal}
+use Rattle.protocol.specs.declared.Bill.{Bill}
+use Rattle.protocol.specs.Runs.{answered}
 use borrow.Author.Needs.{needs}
 use Rattle.steps.proofs.advance.Statement.{statement}
 use Rattle.steps.proofs.advance.Tie as tie
@@ -6,7 +11,9 @@ added-requires : tie.Need-added-requires
 added-requires c κs = search needs
 
 returns : tie.Need-returns
-returns c = rw (c .added .ensures)
+returns c =
+    let a = c .before .before .before .args in
+    ap (λ (b : Bill). record { going = ltb (a .taken) (a .count); account = a .p .account; bill = b; answer = answered (a .taken) noRefusal 0 }) (c .added .ensures)
 
 pub advance-spec : {M : Type 1} → statement M
 advance-spec = tie.close (tie.spec added-requires returns)

@@ -1,10 +1,12 @@
-use Prim.Native.Nat.{_*_}
+use Prim.Native.Nat.{ℕ, _*_}
+use mathlib.Core.Path.{ap}
 use native.Mathlib.Nat.{add-sub-cancel-left, add-zero}
 use native.Mathlib.Omega.{arith}
 use denote.Ref.{now}
 use lib.ListN.{length}
-use Rattle.protocol.specs.Board.{slot, slots, wordIndex}
-use Rattle.holders.proofs.Rows.{row-end}
+use Rattle.protocol.specs.Lists.{part}
+use Rattle.protocol.specs.Board.{slots, wordIndex}
+use Rattle.protocol.proofs.Rows.{row-end}
 use Rattle.protocol.proofs.Laws.{failed, passed}
 use Rattle.tables.proofs.Tests.{looked-is, shown}
 use borrow.Author.Needs.{needs}
@@ -78,10 +80,10 @@ returns-2 c =
     rw (
       looked-is (a .setup) (now (a .blocks)) (now (a .counters)) (now (a .words)) (a .processor) (a .block),
       passed (c .before .before .before .before .sees .ensures) (c .before .before .before .if1 .left),
-      c .before .slot .ensures .value,
-      add-sub-cancel-left (slot (a .setup) (a .processor) (a .block) * a .setup .words) (a .setup .words),
+      add-sub-cancel-left (c .before .slot .result * a .setup .words) (a .setup .words),
       add-zero,
     )
+    (ap (λ (k : ℕ). part (now (a .words)) (k * a .setup .words) (a .setup .words)) (c .before .slot .ensures .value))
 
 pub look-spec : {M : Type 1} → statement M
 look-spec =

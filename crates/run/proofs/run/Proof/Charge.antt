@@ -26,7 +26,7 @@ use denote.Triple.Walked.{says}
 use Rattle.protocol.specs.declared.Account.{Account}
 use Rattle.protocol.proofs.Account as Account-t
 use Rattle.protocol.proofs.Account.Laws as Account-l
-use Rattle.run.specs.Outcomes.{grown, Room as Fair}
+use Rattle.run.specs.Outcomes.{grown, GrowthFits}
 use Rattle.walks.proofs.Opening.{at-value}
 use Rattle.run.proofs.charge as charge
 
@@ -38,7 +38,7 @@ module _ {M : Type 1} (𝓤 : URA M) (H : Heap 𝓤) (A : Atoms 𝓤) (mem : Mem
     abbrev pub to : Called .Ghost
     to = (((κ, tt), (q, tt), tt, (at-value Account-t.the-row b o γ a, (n, tt)), (vptr b o ∷ [], ((LL.vals Account-t.the-type Account-l.the-laws n), tt))), tt)
 
-    pub before : Is Account-t.the-row n (LL.vals Account-t.the-type Account-l.the-laws n) → Fair a n → ent 𝓤 (sep 𝓤 (sem 𝓤 H A (MutRef (named 0) κ Account-t.the-row .own (at-value Account-t.the-row b o γ a) (vptr b o ∷ []))) (A .lft κ q)) (Called .pre to)
+    pub before : Is Account-t.the-row n (LL.vals Account-t.the-type Account-l.the-laws n) → GrowthFits a n → ent 𝓤 (sep 𝓤 (sem 𝓤 H A (MutRef (named 0) κ Account-t.the-row .own (at-value Account-t.the-row b o γ a) (vptr b o ∷ []))) (A .lft κ q)) (Called .pre to)
     before n-is room =
         qed W (‵ (MutRef (named 0) κ Account-t.the-row .own (at-value Account-t.the-row b o γ a) (vptr b o ∷ [])) ∷ ‵ (flft κ q) ∷ []) ∵ says ! room $
         nothing ! $ owned ! Account-t.the-row (Is Account-t.the-row) (LL.makes Account-t.the-type Account-l.the-plain 𝓤 H A) n _ n-is $ fjoin ! $ move ! (1 ∷ 0 ∷ []) $ fjoin ! $ nothing ! $ move ! (2 ∷ 0 ∷ []) $ join ! $ frame ! $ done !
