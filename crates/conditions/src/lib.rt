@@ -16,8 +16,8 @@ ghost use Rattle.protocol.specs.Refusals.{noRefusal};
 ghost use Rattle.protocol.specs.Board.{Fits, slots};
 ghost use Rattle.protocol.specs.Requests.{isWrite};
 ghost use Rattle.protocol.specs.Accounts.{cycles};
-ghost use Rattle.protocol.specs.Rival.{Rival, rival, completionCycles, cost, moveRefusal, completionRefusal, refusal};
-ghost use Rattle.copies.specs.Copies.{lent, Sized};
+ghost use Rattle.protocol.specs.Rival.{Rival, rival, RivalSized, completionCycles, cost, moveRefusal, completionRefusal, refusal};
+ghost use Rattle.copies.specs.Copies.{lent};
 
 // ---- what an entry costs
 
@@ -123,7 +123,7 @@ fn drop_refusal(
     marks: &[u32],
 ) -> u32
     requires { ⌜ Fits setup ⌝ }
-    requires { ⌜ Sized setup (lent blocks held marks) ⌝ }
+    requires { ⌜ RivalSized setup (lent blocks held marks) ⌝ }
     ensures { λ r. ⌜ r ≡ refusal setup (lent (blocks .entry) (held .entry) (marks .entry)) [] (Entry.Drop processor block) ⌝ }
 {
     let n = move_refusal(setup, processor, block);
@@ -143,7 +143,7 @@ fn drop_refusal(
 // The refusal of an entry where no request is left: 26 at a completion.
 pub fn refusal(setup: Setup, entry: Entry, blocks: &[u32], held: &[u32], marks: &[u32]) -> u32
     requires { ⌜ Fits setup ⌝ }
-    requires { ⌜ Sized setup (lent blocks held marks) ⌝ }
+    requires { ⌜ RivalSized setup (lent blocks held marks) ⌝ }
     ensures { λ r. ⌜ r ≡ refusal setup (lent (blocks .entry) (held .entry) (marks .entry)) [] entry ⌝ }
 {
     match entry {

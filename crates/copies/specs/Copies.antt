@@ -1,12 +1,9 @@
 -- A rival's copies in lent tables.
 use Prim.Native.Nat.{ℕ}
-use mathlib.Core.Path.{_≡_}
 use mathlib.Core.Bool.{Bool, true, false, not, _&&_}
 use mathlib.Core.List.{List}
 use denote.Ref.{RefT, now}
-use lib.ListN.{length}
 use lib.Dec.{eqb}
-use Rattle.protocol.specs.Board.{slots}
 use Rattle.protocol.specs.Rival.{Rival, rival, keeps}
 use Rattle.protocol.specs.declared.Setup.{Setup}
 use Rattle.protocol.specs.declared.Block.{Block}
@@ -16,12 +13,6 @@ use Rattle.protocol.specs.declared.Entry.the-variants.{Complete, CompleteByBroa
 -- the rival behind three references
 abbrev pub lent : RefT (List ℕ) → RefT (List ℕ) → RefT (List ℕ) → Rival
 lent b h m = rival (now b) (now h) (now m)
-
--- 2, as facts
-pub record Sized (s : Setup) (r : Rival) : Type 0 where
-  pub blocks : length (r .blocks) ≡ slots s
-  pub held : length (r .held) ≡ slots s
-  pub marks : length (r .marks) ≡ slots s
 
 -- processor j is another one than i and has a copy of block b
 unfoldable pub anotherKeeps : Setup → Rival → ℕ → Block → ℕ → Bool

@@ -11,8 +11,8 @@ ghost use Prim.Native.Nat.{ℕ, _<_};
 ghost use lib.ListN.{length, set};
 ghost use Rattle.protocol.specs.Refusals.{noRefusal};
 ghost use Rattle.protocol.specs.Board.{Fits, slot, slots};
-ghost use Rattle.protocol.specs.Rival.{rival, keepsAt, keeps, shared, unmarked, rivalFetched, rivalWrittenBack, rivalDropped, played, refusal};
-ghost use Rattle.copies.specs.Copies.{lent, Sized, anotherKeeps, completion};
+ghost use Rattle.protocol.specs.Rival.{rival, RivalSized, keepsAt, keeps, shared, unmarked, rivalFetched, rivalWrittenBack, rivalDropped, played, refusal};
+ghost use Rattle.copies.specs.Copies.{lent, anotherKeeps, completion};
 
 // ---- who has a copy
 
@@ -80,7 +80,7 @@ pub fn shared(setup: Setup, processor: u32, block: Block, blocks: &[u32], held: 
 fn unmark_copy(setup: Setup, block: Block, j: u32, blocks: &[u32], held: &[u32], marks: &mut [u32])
     requires { ⌜ Fits setup ⌝ }
     requires { ⌜ j < setup .processors ⌝ }
-    requires { ⌜ Sized setup (lent blocks held marks) ⌝ }
+    requires { ⌜ RivalSized setup (lent blocks held marks) ⌝ }
     ensures { λ _. ⌜ ((m : List ℕ) → now (marks .exit) ≡ cond (keeps setup (rival (now (blocks .entry)) (now (held .entry)) m) j block) (set (now (marks .entry)) (slot setup j block) 0) (now (marks .entry))) ⌝ }
 {
     let k = slot(setup, j, block);
@@ -93,7 +93,7 @@ fn unmark_copy(setup: Setup, block: Block, j: u32, blocks: &[u32], held: &[u32],
 // A block's mark clears at every processor.
 fn unmark(setup: Setup, block: Block, blocks: &[u32], held: &[u32], marks: &mut [u32])
     requires { ⌜ Fits setup ⌝ }
-    requires { ⌜ Sized setup (lent blocks held marks) ⌝ }
+    requires { ⌜ RivalSized setup (lent blocks held marks) ⌝ }
     ensures { λ _. ⌜ now (marks .exit) ≡ unmarked setup (lent (blocks .entry) (held .entry) (marks .entry)) block (setup .processors) ⌝ }
 {
     let n = setup.processors;
@@ -113,7 +113,7 @@ fn fetch<'a>(
 )
     requires { ⌜ Fits setup ⌝ }
     requires { ⌜ processor < setup .processors ⌝ }
-    requires { ⌜ Sized setup (lent blocks held marks) ⌝ }
+    requires { ⌜ RivalSized setup (lent blocks held marks) ⌝ }
     ensures { λ _. ⌜ lent (blocks .exit) (held .exit) (marks .exit) ≡ rivalFetched setup (lent (blocks .entry) (held .entry) (marks .entry)) processor block ⌝ }
 {
     unmark(setup, block, &*blocks, &*held, marks);
@@ -145,7 +145,7 @@ fn drop<'a>(
 )
     requires { ⌜ Fits setup ⌝ }
     requires { ⌜ processor < setup .processors ⌝ }
-    requires { ⌜ Sized setup (lent blocks held marks) ⌝ }
+    requires { ⌜ RivalSized setup (lent blocks held marks) ⌝ }
     ensures { λ _. ⌜ lent (blocks .exit) (held .exit) (marks .exit) ≡ rivalDropped setup (lent (blocks .entry) (held .entry) (marks .entry)) processor block ⌝ }
 {
     let k = slot(setup, processor, block);
@@ -163,7 +163,7 @@ pub fn play<'a>(
     marks: &'a mut [u32],
 )
     requires { ⌜ Fits setup ⌝ }
-    requires { ⌜ Sized setup (lent blocks held marks) ⌝ }
+    requires { ⌜ RivalSized setup (lent blocks held marks) ⌝ }
     requires { ⌜ refusal setup (lent blocks held marks) [] entry ≡ noRefusal ⌝ }
     ensures { λ _. ⌜ lent (blocks .exit) (held .exit) (marks .exit) ≡ played setup (lent (blocks .entry) (held .entry) (marks .entry)) [] entry ⌝ }
 {
@@ -187,7 +187,7 @@ pub fn play_completion(
 )
     requires { ⌜ Fits setup ⌝ }
     requires { ⌜ request .processor < setup .processors ⌝ }
-    requires { ⌜ Sized setup (lent blocks held marks) ⌝ }
+    requires { ⌜ RivalSized setup (lent blocks held marks) ⌝ }
     ensures { λ _. ⌜ rival (now (blocks .entry)) (now (held .entry)) (now (marks .exit)) ≡ played setup (lent (blocks .entry) (held .entry) (marks .entry)) (request ∷ []) (completion broadcast) ⌝ }
 {
     if broadcast {

@@ -15,8 +15,8 @@ use borrow.Author.Tests.{ltb-true, ltb-false, eqb-true, eq-eqb}
 use Rattle.protocol.specs.Refusals.{noRefusal, requestsLeft}
 use Rattle.protocol.specs.Board.{Fits}
 use Rattle.protocol.specs.Accounts.{nothing, plus, cycles}
-use Rattle.protocol.specs.Rival.{Rival, noCopies, played, left, cost, refusal, endRefusal}
-use Rattle.protocol.specs.Pricer.{Verdict, accepted, refused, ending, judged, verdict, priceRefusal, answerTo, price, copiesAfter, priceTables}
+use Rattle.protocol.specs.Rival.{Rival, RivalSized, noCopies, played, left, cost, refusal, endRefusal}
+use Rattle.protocol.specs.Pricer.{Verdict, accepted, refused, ending, judged, verdict, priceEntryLimit, priceRefusal, answerTo, price, copiesAfter, priceTables}
 use Rattle.protocol.specs.declared.Setup.{Setup}
 use Rattle.protocol.specs.declared.Operation.the-variants.{Read}
 use Rattle.protocol.specs.declared.Request.{Request}
@@ -25,11 +25,11 @@ use Rattle.protocol.specs.declared.Entry.{Entry}
 use Rattle.protocol.specs.declared.Entry.the-variants.{Fetch, WriteBack, Drop, Complete, CompleteByBroadcast}
 use Rattle.protocol.specs.declared.PriceAnswer.the-variants.{Accepted, Refused}
 use Rattle.protocol.proofs.Laws.{choice, both-true}
-use Rattle.copies.specs.Copies.{Sized, completion}
+use Rattle.protocol.proofs.Rival.{sized-noCopies, sized-played}
+use Rattle.copies.specs.Copies.{completion}
 use Rattle.pricing.specs.declared.Pricing.{Pricing}
-use Rattle.pricing.specs.Stages.{completes, broadcasts, awaits, Stage, pricingAt, waiting, stopped, rejected, reached, turned, lengthsRefusal, begun, took, completed, Ready, Due}
-use Rattle.schedule.proofs.Lengths.{sized-noCopies, sized-played}
-use Rattle.schedule.proofs.Laws.{priceRefusal-is, lengths-passed, cheap}
+use Rattle.pricing.specs.Stages.{completes, broadcasts, awaits, Stage, pricingAt, waiting, stopped, rejected, reached, turned, begun, took, completed, Ready, Due}
+use Rattle.schedule.proofs.Laws.{price-passed, cheap}
 
 -- what the lists have outside
 abbrev pub no-entry : Entry
@@ -88,7 +88,7 @@ module _ (s : Setup) (r : Rival) (es : List Entry) (qs : List Request) where
     pub ready : Ready s x
     pub entries : x .progress .entries ≡ length es
     pub requests : x .progress .requests ≡ length qs
-    pub passed : priceRefusal s r qs es ≡ noRefusal
+    pub passed : priceRefusal s r (length es) (length qs) ≡ noRefusal
     pub spent : Bill
     pub cost-is : cycles spent ≡ x .progress .cost
     pub same : judged s (x .copies) (drop (x .progress .next) qs) (drop (x .progress .at) es) (x .progress .at) spent ≡ verdict s qs es
@@ -107,14 +107,14 @@ module _ (s : Setup) (r : Rival) (es : List Entry) (qs : List Request) where
 
   -- ---- a stage that is the last
 
-  module _ (passed : priceRefusal s r qs es ≡ noRefusal) where
+  module _ (passed : priceRefusal s r (length es) (length qs) ≡ noRefusal) where
     price-is : answerTo (verdict s qs es) ≡ price s r qs es
     unfolding price
-    price-is = rw (eq-eqb (priceRefusal s r qs es) noRefusal passed)
+    price-is = rw (eq-eqb (priceRefusal s r (length es) (length qs)) noRefusal passed)
 
     tables-are : copiesAfter s (verdict s qs es) ≡ priceTables s r qs es
     unfolding priceTables
-    tables-are = rw (eq-eqb (priceRefusal s r qs es) noRefusal passed)
+    tables-are = rw (eq-eqb (priceRefusal s r (length es) (length qs)) noRefusal passed)
 
     -- it stops, and is judged so
     stops : (x : Stage) (v : Verdict) → v ≡ verdict s qs es → x .progress .going ≡ false → x .progress .answer ≡ answerTo v → x .copies ≡ copiesAfter s v → Inv x
@@ -126,7 +126,7 @@ module _ (s : Setup) (r : Rival) (es : List Entry) (qs : List Request) where
 
     -- ---- a stage at a place
 
-    module _ (ok : Fits s) (few : length es ≤ 4000000) (a k c : ℕ) (y : Rival) (sized : Sized s y) (within : a ≤ length es) (low : c ≤ 16 * a)
+    module _ (ok : Fits s) (few : length es ≤ priceEntryLimit) (a k c : ℕ) (y : Rival) (sized : RivalSized s y) (within : a ≤ length es) (low : c ≤ 16 * a)
         (b : Bill) (cost-is : cycles b ≡ c) (same : judged s y (drop k qs) (drop a es) a b ≡ verdict s qs es) where
       abbrev p : Pricing
       p = pricingAt (length es) (length qs) a k c
@@ -175,26 +175,23 @@ module _ (s : Setup) (r : Rival) (es : List Entry) (qs : List Request) where
 
   -- ---- at the start
 
-  begins : (z : Bool) → eqb (lengthsRefusal s r (length es) (length qs)) noRefusal ≡ z
+  begins : (z : Bool) → eqb (priceRefusal s r (length es) (length qs)) noRefusal ≡ z
       → Inv (cond z (reached s (pricingAt (length es) (length qs) 0 0 0) (noCopies s))
-      (record { progress = stopped (pricingAt (length es) (length qs) 0 0 0) (lengthsRefusal s r (length es) (length qs)) 0; copies = r }))
+      (record { progress = stopped (pricingAt (length es) (length qs) 0 0 0) (priceRefusal s r (length es) (length qs)) 0; copies = r }))
   unfolding price priceTables verdict
   begins true e =
-      let z = eqb-true (lengthsRefusal s r (length es) (length qs)) noRefusal e in
-      let w = lengths-passed s r (length es) (length qs) z in
-      inv-reached (sym (priceRefusal-is s r qs es) ∙ z) (w .fits) (w .few-entries) 0 0 0 (noCopies s) (sized-noCopies s) (omega arith) (omega arith) nothing refl refl
-  begins false e =
-      let n = priceRefusal-is s r qs es in
-      let f : eqb (priceRefusal s r qs es) noRefusal ≡ false = ap (λ (x : ℕ). eqb x noRefusal) (sym n) ∙ e in
-      record {
-        goes = λ go. absurd (true≢false (sym go));
-        answers = λ _. ap (λ (x : ℕ). Refused x 0) n ∙ rw f;
-        leaves = λ _. rw f;
-      }
+      let z = eqb-true (priceRefusal s r (length es) (length qs)) noRefusal e in
+      let w = price-passed s r (length es) (length qs) z in
+      inv-reached z (w .fits) (w .few-entries) 0 0 0 (noCopies s) (sized-noCopies s) (omega arith) (omega arith) nothing refl refl
+  begins false e = record {
+    goes = λ go. absurd (true≢false (sym go));
+    answers = λ _. rw e;
+    leaves = λ _. rw e;
+  }
 
   pub inv-start : Inv (begun s r (length es) (length qs))
   unfolding begun
-  inv-start = begins (eqb (lengthsRefusal s r (length es) (length qs)) noRefusal) refl
+  inv-start = begins (eqb (priceRefusal s r (length es) (length qs)) noRefusal) refl
 
   -- ---- a turn
 

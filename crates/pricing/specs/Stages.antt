@@ -2,19 +2,18 @@
 use Prim.Native.Nat.{ℕ, _+_, _*_, _≤_, _<_}
 use mathlib.Core.Bool.{Bool, true, false, _&&_, cond}
 use mathlib.Core.List.{List, [], _∷_}
-use lib.ListN.{length}
-use lib.Dec.{ltb, leb, eqb}
-use Rattle.protocol.specs.Refusals.{noRefusal, setupOutOfRange, wrongLength, tooMany, requestsLeft}
-use Rattle.protocol.specs.Board.{Fits, inRange, slots}
+use lib.Dec.{ltb, eqb}
+use Rattle.protocol.specs.Refusals.{noRefusal, requestsLeft}
+use Rattle.protocol.specs.Board.{Fits}
 use Rattle.protocol.specs.Accounts.{cycles}
-use Rattle.protocol.specs.Rival.{Rival, rival, noCopies, played, cost, refusal}
-use Rattle.protocol.specs.Pricer.{priceRequestLimit, priceEntryLimit}
+use Rattle.protocol.specs.Rival.{Rival, rival, RivalSized, noCopies, played, cost, refusal}
+use Rattle.protocol.specs.Pricer.{priceEntryLimit, priceRefusal}
 use Rattle.protocol.specs.declared.Setup.{Setup}
 use Rattle.protocol.specs.declared.Request.{Request}
 use Rattle.protocol.specs.declared.Entry.{Entry}
 use Rattle.protocol.specs.declared.Entry.the-variants.{Fetch, WriteBack, Drop, Complete, CompleteByBroadcast}
 use Rattle.protocol.specs.declared.PriceAnswer.the-variants.{Accepted, Refused}
-use Rattle.copies.specs.Copies.{Sized, completion}
+use Rattle.copies.specs.Copies.{completion}
 use Rattle.pricing.specs.declared.Pricing.{Pricing}
 
 -- ---- what an entry is
@@ -111,18 +110,11 @@ turned s x qs e k =
 
 -- ---- the steps
 
--- 1, 2, 5 for n entries and m requests: priceRefusal, which names the lists by their lengths only (schedule's proofs/Laws, priceRefusal-is)
-unfoldable pub lengthsRefusal : Setup → Rival → ℕ → ℕ → ℕ
-lengthsRefusal s lent n m =
-    cond (inRange s)
-    (cond (eqb (length (lent .blocks)) (slots s) && eqb (length (lent .held)) (slots s) && eqb (length (lent .marks)) (slots s))
-    (cond (leb m priceRequestLimit && leb n priceEntryLimit) noRefusal tooMany) wrongLength) setupOutOfRange
-
--- before the first entry
+-- before the first of n entries, for m requests
 unfoldable pub begun : Setup → Rival → ℕ → ℕ → Stage
 begun s lent n m =
-    cond (eqb (lengthsRefusal s lent n m) noRefusal) (reached s (pricingAt n m 0 0 0) (noCopies s))
-    (record { progress = stopped (pricingAt n m 0 0 0) (lengthsRefusal s lent n m) 0; copies = lent })
+    cond (eqb (priceRefusal s lent n m) noRefusal) (reached s (pricingAt n m 0 0 0) (noCopies s))
+    (record { progress = stopped (pricingAt n m 0 0 0) (priceRefusal s lent n m) 0; copies = lent })
 
 -- an entry: a completion waits for its request if one is left
 unfoldable pub took : Setup → Stage → Entry → Stage
@@ -137,19 +129,21 @@ completed s x q = turned s x (q ∷ []) (completion (x .progress .«by_broadcast
 
 -- ---- what the steps ask
 
--- the entry at the place costs so many cycles, and there are so few entries that no sum wraps
+-- the entry at the place costs n cycles, and there are so few entries that no sum wraps
 pub record Paid (p : Pricing) (n : ℕ) : Type 0 where
-  pub few : p .at < 4000000
+  pub few : p .at < priceEntryLimit
   pub cheap : p .cost ≤ 16 * p .at
   pub entry : n ≤ 16
 
+-- an entry is at the place, and the cost so far is at most 16 an entry: so it does not wrap
 pub record Ready (s : Setup) (x : Stage) : Type 0 where
   pub fits : Fits s
-  pub sized : Sized s (x .copies)
+  pub sized : RivalSized s (x .copies)
   pub within : x .progress .at < x .progress .entries
-  pub few : x .progress .entries ≤ 4000000
+  pub few : x .progress .entries ≤ priceEntryLimit
   pub cheap : x .progress .cost ≤ 16 * x .progress .at
 
+-- and a request is left to complete
 pub record Due (s : Setup) (x : Stage) : Type 0 where
   pub ready : Ready s x
   pub left : x .progress .next < x .progress .requests

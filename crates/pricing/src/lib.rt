@@ -8,10 +8,10 @@ ghost use mathlib.Core.Bool.{_&&_};
 ghost use Prim.Native.Nat.{_+_};
 ghost use lib.Dec.{leb, eqb};
 ghost use Rattle.protocol.specs.Board.{Fits, slots};
-ghost use Rattle.protocol.specs.Rival.{noCopies};
-ghost use Rattle.protocol.specs.Pricer.{priceRequestLimit, priceEntryLimit};
-ghost use Rattle.copies.specs.Copies.{lent, Sized};
-ghost use Rattle.pricing.specs.Stages.{completes, broadcasts, awaits, stage, pricingAt, stopped, waiting, rejected, reached, lengthsRefusal, Paid};
+ghost use Rattle.protocol.specs.Rival.{RivalSized, noCopies};
+ghost use Rattle.protocol.specs.Pricer.{priceRequestLimit, priceEntryLimit, priceRefusal};
+ghost use Rattle.copies.specs.Copies.{lent};
+ghost use Rattle.pricing.specs.Stages.{completes, broadcasts, awaits, stage, pricingAt, stopped, waiting, rejected, reached, Paid};
 
 // Condition 5 refuses more.
 pub const MOST_REQUESTS: usize = 1000000;
@@ -125,7 +125,7 @@ pub fn stopped(p: Pricing, number: u32, place: usize) -> Pricing
 
 // Every table becomes 0.
 pub fn clear_all<'a>(setup: Setup, blocks: &'a mut [u32], held: &'a mut [u32], marks: &'a mut [u32])
-    requires { ⌜ Sized setup (lent blocks held marks) ⌝ }
+    requires { ⌜ RivalSized setup (lent blocks held marks) ⌝ }
     ensures { λ _. ⌜ lent (blocks .exit) (held .exit) (marks .exit) ≡ noCopies setup ⌝ }
 {
     clear(blocks);
@@ -143,7 +143,7 @@ pub fn reject<'a>(
     number: u32,
     place: usize,
 ) -> Pricing
-    requires { ⌜ Sized setup (lent blocks held marks) ⌝ }
+    requires { ⌜ RivalSized setup (lent blocks held marks) ⌝ }
     ensures { λ r. ⌜ stage r (now (blocks .exit)) (now (held .exit)) (now (marks .exit)) ≡ rejected setup p number place ⌝ }
 {
     clear_all(setup, blocks, held, marks);
@@ -158,7 +158,7 @@ pub fn reach<'a>(
     marks: &'a mut [u32],
     p: Pricing,
 ) -> Pricing
-    requires { ⌜ Sized setup (lent blocks held marks) ⌝ }
+    requires { ⌜ RivalSized setup (lent blocks held marks) ⌝ }
     ensures { λ r. ⌜ stage r (now (blocks .exit)) (now (held .exit)) (now (marks .exit)) ≡ reached setup p (lent (blocks .entry) (held .entry) (marks .entry)) ⌝ }
 {
     if p.at < p.entries {
@@ -188,7 +188,7 @@ pub fn advance<'a>(
     next: usize,
     cycles: u32,
 ) -> Pricing
-    requires { ⌜ Sized setup (lent blocks held marks) ⌝ }
+    requires { ⌜ RivalSized setup (lent blocks held marks) ⌝ }
     requires { ⌜ Paid p cycles ⌝ }
     ensures { λ r. ⌜ stage r (now (blocks .exit)) (now (held .exit)) (now (marks .exit)) ≡ reached setup (pricingAt (p .entries) (p .requests) (p .at + 1) next (p .cost + cycles)) (lent (blocks .entry) (held .entry) (marks .entry)) ⌝ }
 {
@@ -224,7 +224,7 @@ fn few_enough(entries: usize, requests: usize) -> bool
 }
 
 // 1, 2, 5 for lists of these lengths.
-pub fn lengths_refusal(
+pub fn price_refusal(
     setup: Setup,
     blocks: &[u32],
     held: &[u32],
@@ -232,7 +232,7 @@ pub fn lengths_refusal(
     entries: usize,
     requests: usize,
 ) -> u32
-    ensures { λ r. ⌜ r ≡ lengthsRefusal setup (lent (blocks .entry) (held .entry) (marks .entry)) entries requests ⌝ }
+    ensures { λ r. ⌜ r ≡ priceRefusal setup (lent (blocks .entry) (held .entry) (marks .entry)) entries requests ⌝ }
 {
     if !setup.in_range() {
         return protocol::SETUP_OUT_OF_RANGE;

@@ -1,18 +1,18 @@
 -- The cases of each step, and what is known where 1, 2 and 5 let the lists through.
-use Prim.Native.Nat.{ℕ, _+_, _≤_, _<_}
+use Prim.Native.Nat.{ℕ, _+_, _≤_}
 use mathlib.Core.Path.{_≡_, refl, _∙_}
 use mathlib.Core.Logic.{_≢_}
-use mathlib.Core.Bool.{Bool, true, false, not, _&&_, cond}
+use mathlib.Core.Bool.{Bool, true, false, _&&_, cond}
 use mathlib.Core.List.{List, [], _∷_}
 use native.Mathlib.Omega.{arith}
 use lib.ListN.{length}
-use lib.Dec.{leb, ltb, eqb}
-use borrow.Author.Tests.{leb-true, ltb-true, eqb-true, eq-eqb, ne-eqb}
-use Rattle.protocol.specs.Refusals.{noRefusal, setupOutOfRange, wrongLength, noSuchProcessor, noSuchVariable, tooMany, readByBroadcast, completionNotHeld}
-use Rattle.protocol.specs.Board.{Fits, inRange, slots, variables}
-use Rattle.protocol.specs.Requests.{isWrite, variableOf, target}
+use lib.Dec.{leb, eqb}
+use borrow.Author.Tests.{leb-true, eqb-true, eq-eqb, ne-eqb}
+use Rattle.protocol.specs.Refusals.{noRefusal, setupOutOfRange, wrongLength, tooMany}
+use Rattle.protocol.specs.Board.{Fits, inRange, slots}
+use Rattle.protocol.specs.Requests.{isWrite, target}
 use Rattle.protocol.specs.Accounts.{cycles}
-use Rattle.protocol.specs.Rival.{Rival, noCopies, keeps, shared, played, completionCycles, cost, completionRefusal, refusal}
+use Rattle.protocol.specs.Rival.{Rival, RivalSized, noCopies, shared, played, completionCycles, cost, completionRefusal, refusal}
 use Rattle.protocol.specs.Pricer.{priceRequestLimit, priceEntryLimit, priceRefusal}
 use Rattle.protocol.specs.declared.Setup.{Setup}
 use Rattle.protocol.specs.declared.Request.{Request}
@@ -20,41 +20,35 @@ use Rattle.protocol.specs.declared.Entry.{Entry}
 use Rattle.protocol.specs.declared.Entry.the-variants.{Fetch, WriteBack, Drop, Complete, CompleteByBroadcast}
 use Rattle.protocol.proofs.Laws.{both-true, three-true, chosen-zero, choice}
 use Rattle.protocol.proofs.Board.{inRange-fits}
-use Rattle.copies.specs.Copies.{Sized, completion}
-use Rattle.pricing.specs.Stages.{awaits, broadcasts, Stage, pricingAt, waiting, stopped, rejected, reached, turned, lengthsRefusal, begun, took}
+use Rattle.copies.specs.Copies.{completion}
+use Rattle.pricing.specs.Stages.{awaits, broadcasts, Stage, pricingAt, waiting, stopped, rejected, reached, turned, begun, took}
 
 -- ---- 1, 2 and 5
 
--- the lists' lengths are all that the conditions know of them
-pub priceRefusal-is : (s : Setup) (r : Rival) (qs : List Request) (es : List Entry) → lengthsRefusal s r (length es) (length qs) ≡ priceRefusal s r qs es
-unfolding lengthsRefusal priceRefusal
-priceRefusal-is s r qs es = refl
-
+-- what 1, 2 and 5 let through
 pub record Passed (s : Setup) (r : Rival) (n m : ℕ) : Type 0 where
   pub fits : Fits s
-  pub sized : Sized s r
-  pub few-requests : m ≤ priceRequestLimit
+  pub sized : RivalSized s r
   pub few-entries : n ≤ priceEntryLimit
 
 module _ (s : Setup) (r : Rival) (n m : ℕ) where
-  pub lengths-passed : lengthsRefusal s r n m ≡ 0 → Passed s r n m
-  unfolding lengthsRefusal
-  lengths-passed e =
+  pub price-passed : priceRefusal s r n m ≡ 0 → Passed s r n m
+  unfolding priceRefusal
+  price-passed e =
       let sizes = eqb (length (r .blocks)) (slots s) && eqb (length (r .held)) (slots s) && eqb (length (r .marks)) (slots s) in
       let counts = leb m priceRequestLimit && leb n priceEntryLimit in
       let one = chosen-zero (inRange s) (cond sizes (cond counts noRefusal tooMany) wrongLength) setupOutOfRange (λ z. absurd (omega arith)) e in
       let two = chosen-zero sizes (cond counts noRefusal tooMany) wrongLength (λ z. absurd (omega arith)) (one .1) in
       let five = chosen-zero counts noRefusal tooMany (λ z. absurd (omega arith)) (two .1) in
       let size = three-true _ _ _ (two .0) in
-      let count = both-true _ _ (five .0) in
+      let count = both-true (leb m priceRequestLimit) (leb n priceEntryLimit) (five .0) in
       record {
         fits = inRange-fits s (one .0);
         sized = record { blocks = eqb-true _ _ (size .0); held = eqb-true _ _ (size .1); marks = eqb-true _ _ (size .2) };
-        few-requests = leb-true _ _ (count .0);
         few-entries = leb-true _ _ (count .1);
       }
 
-  module _ (x : ℕ) (is : x ≡ lengthsRefusal s r n m) where
+  module _ (x : ℕ) (is : x ≡ priceRefusal s r n m) where
     pub begun-refused : x ≢ 0 → _≡_ {A = Stage} (record { progress = stopped (pricingAt n m 0 0 0) x 0; copies = r }) (begun s r n m)
     unfolding begun
     begun-refused ne = rw (← is, ne-eqb x 0 ne)
@@ -96,15 +90,6 @@ module _ (s : Setup) (r : Rival) (q : Request) where
   pub completion-cost-is : (b : Bool) → completionCycles s r q b ≡ cycles (cost s r (q ∷ []) (completion b))
   completion-cost-is true = omega arith
   completion-cost-is false = omega arith
-
--- a completion that is not refused names a processor
-pub completes-processor : (s : Setup) (r : Rival) (q : Request) (b : Bool) → completionRefusal s r q b ≡ 0 → q .processor < s .processors
-unfolding completionRefusal
-completes-processor s r q b e =
-    ltb-true _ _ (chosen-zero (ltb (q .processor) (s .processors))
-    (cond (ltb (variableOf q .0) (variables s))
-    (cond (b && not (isWrite q)) readByBroadcast (cond (keeps s r (q .processor) (target s q)) noRefusal completionNotHeld)) noSuchVariable)
-    noSuchProcessor (λ z. absurd (omega arith)) e .0)
 
 -- ---- no entry costs more than 16
 

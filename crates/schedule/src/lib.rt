@@ -10,7 +10,7 @@ use pricing::advance;
 use pricing::awaits;
 use pricing::broadcasts;
 use pricing::clear_all;
-use pricing::lengths_refusal;
+use pricing::price_refusal;
 use pricing::pricing_at;
 use pricing::reach;
 use pricing::reject;
@@ -35,7 +35,7 @@ pub fn begin<'a>(
     ensures { λ r. ⌜ stage r (now (blocks .exit)) (now (held .exit)) (now (marks .exit)) ≡ begun setup (rival (now (blocks .entry)) (now (held .entry)) (now (marks .entry))) entries requests ⌝ }
 {
     let p = pricing_at(entries, requests, 0, 0, 0);
-    let n = lengths_refusal(setup, &*blocks, &*held, &*marks, entries, requests);
+    let n = price_refusal(setup, &*blocks, &*held, &*marks, entries, requests);
     if n != protocol::NO_REFUSAL {
         return stopped(p, n, 0);
     }

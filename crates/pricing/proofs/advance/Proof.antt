@@ -1,5 +1,9 @@
 -- The next place, with the cycles added.
 use borrow.Author.Needs.{needs}
+use mathlib.Core.Path.{ap, _∙_}
+use Rattle.copies.specs.Copies.{lent}
+use Rattle.pricing.specs.Stages.{reached}
+use Rattle.pricing.specs.declared.Pricing.{Pricing}
 use Rattle.pricing.proofs.advance.Statement.{statement}
 use Rattle.pricing.proofs.advance.Tie as tie
 
@@ -25,7 +29,10 @@ same-length-3 : tie.Need-same-length-3
 same-length-3 c = search needs
 
 returns : tie.Need-returns
-returns c = rw (← (c .before .before .before .before .before .before .before .before .before .before .pricing-at .ensures)) (c .before .before .before .before .before .before .reach .ensures)
+returns c =
+    let a = c .before .before .before .before .before .before .before .before .before .before .before .before .before .before .before .before .args in
+    c .before .before .before .before .before .before .reach .ensures
+    ∙ ap (λ (z : Pricing). reached (a .setup) z (lent (a .blocks) (a .held) (a .marks))) (c .before .before .before .before .before .before .before .before .before .before .pricing-at .ensures)
 
 pub advance-spec : {M : Type 1} → statement M
 advance-spec =

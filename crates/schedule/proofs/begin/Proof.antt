@@ -1,19 +1,19 @@
 -- A refusal leaves the tables; else they are cleared, and the first place is reached.
 use borrow.Author.Needs.{needs}
 use mathlib.Core.Path.{sym, subst, _∙_}
-use Rattle.protocol.specs.Rival.{Rival}
-use Rattle.copies.specs.Copies.{lent, Sized}
+use Rattle.protocol.specs.Rival.{Rival, RivalSized}
+use Rattle.protocol.proofs.Rival.{sized-noCopies}
+use Rattle.copies.specs.Copies.{lent}
 use Rattle.pricing.specs.Stages.{reached}
-use Rattle.schedule.proofs.Laws.{lengths-passed, begun-refused, begun-passed}
-use Rattle.schedule.proofs.Lengths.{sized-noCopies}
+use Rattle.schedule.proofs.Laws.{price-passed, begun-refused, begun-passed}
 use Rattle.schedule.proofs.begin.Statement.{statement}
 use Rattle.schedule.proofs.begin.Tie as tie
 
 pricing-at-requires : tie.Need-pricing-at-requires
 pricing-at-requires c κs = search needs
 
-lengths-refusal-requires : tie.Need-lengths-refusal-requires
-lengths-refusal-requires c κs = search needs
+price-refusal-requires : tie.Need-price-refusal-requires
+price-refusal-requires c κs = search needs
 
 stopped-requires : tie.Need-stopped-requires
 stopped-requires c κs = search needs
@@ -31,17 +31,17 @@ returns : tie.Need-returns
 returns c =
     let a = c .before .before .before .before .before .before .before .before .before .before .args in
     rw (c .stopped .ensures, c .before .before .before .before .before .before .pricing-at .ensures)
-    (begun-refused (a .setup) (lent (a .blocks) (a .held) (a .marks)) (a .entries) (a .requests) (c .before .before .lengths-refusal .result) (c .before .before .lengths-refusal .ensures) (c .before .if1 .taken))
+    (begun-refused (a .setup) (lent (a .blocks) (a .held) (a .marks)) (a .entries) (a .requests) (c .before .before .price-refusal .result) (c .before .before .price-refusal .ensures) (c .before .if1 .taken))
 
 clear-all-requires : tie.Need-clear-all-requires
 clear-all-requires c κs =
     let a = c .before .before .before .before .before .before .before .before .before .before .before .before .args in
-    lengths-passed (a .setup) (lent (a .blocks) (a .held) (a .marks)) (a .entries) (a .requests) (sym (c .before .before .before .before .lengths-refusal .ensures) ∙ c .before .before .before .if1 .left) .sized
+    price-passed (a .setup) (lent (a .blocks) (a .held) (a .marks)) (a .entries) (a .requests) (sym (c .before .before .before .before .price-refusal .ensures) ∙ c .before .before .before .if1 .left) .sized
 
 reach-requires : tie.Need-reach-requires
 reach-requires c κs =
     let a = c .before .before .before .before .before .before .before .before .before .before .before .before .before .before .before .before .before .before .before .before .before .before .args in
-    subst (λ (r : Rival). Sized (a .setup) r) (sym (c .before .before .before .before .before .before .before .before .before .clear-all .ensures)) (sized-noCopies (a .setup))
+    subst (λ (r : Rival). RivalSized (a .setup) r) (sym (c .before .before .before .before .before .before .before .before .before .clear-all .ensures)) (sized-noCopies (a .setup))
 
 same-length-4 : tie.Need-same-length-4
 same-length-4 c = search needs
@@ -57,14 +57,14 @@ returns-2 c =
     let a = c .before .before .before .before .before .before .before .before .before .before .before .before .before .before .before .before .before .before .before .before .before .before .before .before .before .before .before .before .before .args in
     c .before .before .before .before .before .before .reach .ensures
     ∙ (λ i. reached (a .setup) (c .before .before .before .before .before .before .before .before .before .before .before .before .before .before .before .before .before .before .before .before .before .before .before .before .before .pricing-at .ensures i) (c .before .before .before .before .before .before .before .before .before .before .before .before .before .before .before .before .clear-all .ensures i))
-    ∙ begun-passed (a .setup) (lent (a .blocks) (a .held) (a .marks)) (a .entries) (a .requests) (c .before .before .before .before .before .before .before .before .before .before .before .before .before .before .before .before .before .before .before .before .before .lengths-refusal .result) (c .before .before .before .before .before .before .before .before .before .before .before .before .before .before .before .before .before .before .before .before .before .lengths-refusal .ensures) (c .before .before .before .before .before .before .before .before .before .before .before .before .before .before .before .before .before .before .before .before .if1 .left)
+    ∙ begun-passed (a .setup) (lent (a .blocks) (a .held) (a .marks)) (a .entries) (a .requests) (c .before .before .before .before .before .before .before .before .before .before .before .before .before .before .before .before .before .before .before .before .before .price-refusal .result) (c .before .before .before .before .before .before .before .before .before .before .before .before .before .before .before .before .before .before .before .before .before .price-refusal .ensures) (c .before .before .before .before .before .before .before .before .before .before .before .before .before .before .before .before .before .before .before .before .if1 .left)
 
 pub begin-spec : {M : Type 1} → statement M
 begin-spec =
     tie.close
     (tie.spec
     pricing-at-requires
-    lengths-refusal-requires
+    price-refusal-requires
     stopped-requires
     same-length
     same-length-2

@@ -4,11 +4,11 @@ use mathlib.Core.Path.{sym, subst, _∙_}
 use mathlib.Core.List.{[], _∷_}
 use native.Mathlib.Omega.{arith}
 use denote.Ref.{now}
-use Rattle.protocol.specs.Rival.{Rival}
-use Rattle.copies.specs.Copies.{lent, Sized, completion}
+use Rattle.protocol.specs.Rival.{Rival, RivalSized}
+use Rattle.protocol.proofs.Rival.{completion-legal, sized-played}
+use Rattle.copies.specs.Copies.{lent, completion}
 use Rattle.pricing.specs.Stages.{stage, completed}
-use Rattle.schedule.proofs.Laws.{turned-refused, turned-played, completion-refusal-is, completion-cost-is, cheap-completion, completes-processor}
-use Rattle.schedule.proofs.Lengths.{sized-played}
+use Rattle.schedule.proofs.Laws.{turned-refused, turned-played, completion-refusal-is, completion-cost-is, cheap-completion}
 use Rattle.schedule.proofs.complete.Statement.{statement}
 use Rattle.schedule.proofs.complete.Tie as tie
 
@@ -45,8 +45,8 @@ play-completion-requires c κs =
     let k = c .before .before .before .before .before .before .before .before .before .before .before .before .before .pre .ready in (
       k .fits,
       (
-        completes-processor (a .setup) (lent (a .blocks) (a .held) (a .marks)) (a .request) (a .p .«by_broadcast»)
-            (sym (c .before .before .before .before .before .before .before .completion-refusal .ensures (now (a .marks))) ∙ c .before .before .before .before .before .before .if1 .left),
+        completion-legal (a .setup) (lent (a .blocks) (a .held) (a .marks)) (a .request) (a .p .«by_broadcast»)
+            (sym (c .before .before .before .before .before .before .before .completion-refusal .ensures (now (a .marks))) ∙ c .before .before .before .before .before .before .if1 .left) .valid .processor,
         k .sized,
       ),
     )
@@ -59,7 +59,7 @@ advance-requires c κs =
     let a = c .before .before .before .before .before .before .before .before .before .before .before .before .before .before .before .before .before .before .before .before .args in
     let k = c .before .before .before .before .before .before .before .before .before .before .before .before .before .before .before .before .before .before .before .before .pre .ready in
     let r = lent (a .blocks) (a .held) (a .marks) in (
-      subst (λ (z : Rival). Sized (a .setup) z) (sym (c .before .before .before .before .before .before .play-completion .ensures)) (sized-played (a .setup) r (k .sized) (a .request ∷ []) (completion (a .p .«by_broadcast»))),
+      subst (λ (z : Rival). RivalSized (a .setup) z) (sym (c .before .before .before .before .before .before .play-completion .ensures)) (sized-played (a .setup) r (k .sized) (a .request ∷ []) (completion (a .p .«by_broadcast»))),
       record {
         few = omega (arith, k .within, k .few);
         cheap = k .cheap;

@@ -4,11 +4,11 @@ use mathlib.Core.Path.{sym, subst, _∙_}
 use mathlib.Core.List.{[]}
 use native.Mathlib.Omega.{arith}
 use denote.Ref.{now}
-use Rattle.protocol.specs.Rival.{Rival}
-use Rattle.copies.specs.Copies.{lent, Sized}
+use Rattle.protocol.specs.Rival.{Rival, RivalSized}
+use Rattle.protocol.proofs.Rival.{sized-played}
+use Rattle.copies.specs.Copies.{lent}
 use Rattle.pricing.specs.Stages.{stage}
 use Rattle.schedule.proofs.Laws.{turned-refused, turned-played, took-waits, took-turns, cheap}
-use Rattle.schedule.proofs.Lengths.{sized-played}
 use Rattle.schedule.proofs.take.Statement.{statement}
 use Rattle.schedule.proofs.take.Tie as tie
 
@@ -61,7 +61,7 @@ advance-requires c κs =
     let a = c .before .before .before .before .before .before .before .before .before .before .before .before .before .before .before .before .before .before .before .before .before .before .before .before .args in
     let k = c .before .before .before .before .before .before .before .before .before .before .before .before .before .before .before .before .before .before .before .before .before .before .before .before .pre in
     let r = lent (a .blocks) (a .held) (a .marks) in (
-      subst (λ (z : Rival). Sized (a .setup) z) (sym (c .before .before .before .before .before .before .before .before .before .before .play .ensures)) (sized-played (a .setup) r (k .sized) [] (a .entry)),
+      subst (λ (z : Rival). RivalSized (a .setup) z) (sym (c .before .before .before .before .before .before .before .before .before .before .play .ensures)) (sized-played (a .setup) r (k .sized) [] (a .entry)),
       record {
         few = omega (arith, k .within, k .few);
         cheap = k .cheap;

@@ -2,16 +2,16 @@
 use borrow.Author.Needs.{needs}
 use mathlib.Core.Path.{sym, _∙_}
 use borrow.Author.Tests.{not-true, not-false}
+use Rattle.protocol.specs.Pricer.{priceRefusal}
 use Rattle.protocol.proofs.Board.{inRange-fits}
-use Rattle.pricing.specs.Stages.{lengthsRefusal}
-use Rattle.pricing.proofs.lengths_refusal.Statement.{statement}
-use Rattle.pricing.proofs.lengths_refusal.Tie as tie
+use Rattle.pricing.proofs.price_refusal.Statement.{statement}
+use Rattle.pricing.proofs.price_refusal.Tie as tie
 
 in-range-requires : tie.Need-in-range-requires
 in-range-requires c κs = search needs
 
 returns : tie.Need-returns
-unfolding lengthsRefusal
+unfolding priceRefusal
 returns c = rw (sym (c .before .in-range .ensures) ∙ not-true (c .before .in-range .result) (c .if1 .taken))
 
 lengths-fit-requires : tie.Need-lengths-fit-requires
@@ -21,22 +21,22 @@ few-enough-requires : tie.Need-few-enough-requires
 few-enough-requires c κs = search needs
 
 returns-2 : tie.Need-returns-2
-unfolding lengthsRefusal
+unfolding priceRefusal
 returns-2 c =
     rw (sym (c .before .before .before .before .in-range .ensures) ∙ not-false (c .before .before .before .before .in-range .result) (c .before .before .before .if1 .left), ← (c .before .before .lengths-fit .ensures), not-true (c .before .before .lengths-fit .result) (c .if2 .taken))
 
 returns-3 : tie.Need-returns-3
-unfolding lengthsRefusal
+unfolding priceRefusal
 returns-3 c =
     rw (sym (c .before .before .before .before .before .in-range .ensures) ∙ not-false (c .before .before .before .before .before .in-range .result) (c .before .before .before .before .if1 .left), ← (c .before .before .before .lengths-fit .ensures), not-false (c .before .before .before .lengths-fit .result) (c .before .if2 .left), ← (c .before .before .few-enough .ensures), not-true (c .before .before .few-enough .result) (c .if3 .taken))
 
 returns-4 : tie.Need-returns-4
-unfolding lengthsRefusal
+unfolding priceRefusal
 returns-4 c =
     rw (sym (c .before .before .before .before .before .in-range .ensures) ∙ not-false (c .before .before .before .before .before .in-range .result) (c .before .before .before .before .if1 .left), ← (c .before .before .before .lengths-fit .ensures), not-false (c .before .before .before .lengths-fit .result) (c .before .if2 .left), ← (c .before .before .few-enough .ensures), not-false (c .before .before .few-enough .result) (c .if3 .left))
 
-pub lengths-refusal-spec : {M : Type 1} → statement M
-lengths-refusal-spec =
+pub price-refusal-spec : {M : Type 1} → statement M
+price-refusal-spec =
     tie.close
     (tie.spec
     in-range-requires
