@@ -1,5 +1,5 @@
 -- A line's bytes place by place: the leading ones that pass, their number, and a line that takes them.
-use Prim.Native.Nat.{ℕ, suc, _+_, _-_, _*_, _^_, _≤_, _<_}
+use Prim.Native.Nat.{ℕ, _+_, _-_, _*_, _^_, _≤_, _<_}
 use mathlib.Core.Path.{_≡_, refl, sym, ap, _∙_}
 use mathlib.Core.Bool.{Bool, true, false, cond}
 use mathlib.Core.List.{List, [], _∷_}
@@ -10,7 +10,7 @@ use lib.Seq.{drop-cons, drop-length, drop-drop}
 use lib.Dec.{leb, ltb}
 use borrow.Author.Tests.{lt-ltb, le-ltb, ltb-false, leb-true, eq-eqb, ne-eqb}
 use Rattle.din.specs.Lines.{isText, isDigit, hexValue, isHex, leading, behind, hexNumber}
-use Rattle.din.specs.Automaton.{shifted, shiftedAll, withByte, withBytes}
+use Rattle.din.specs.Automaton.{shiftedAll, withByte, withBytes}
 use Rattle.din.specs.declared.Line.{Line}
 use Rattle.din.proofs.Reading.{shifted-fits, hex-lt}
 
@@ -55,11 +55,6 @@ Ends-at P l i e = e ≡ i + length (leading P (drop i l))
 pub rest-at : (P : ℕ → Bool) (l : List ℕ) (i e : ℕ) → Ends-at P l i e → behind P (drop i l) ≡ drop e l
 rest-at P l i e h = sym (drop-leading P (drop i l)) ∙ drop-drop (length (leading P (drop i l))) i l ∙ ap (λ (k : ℕ). drop k l) (sym h)
 
-pub part-at : (P : ℕ → Bool) (l : List ℕ) (i e : ℕ) → Ends-at P l i e → leading P (drop i l) ≡ take (e - i) (drop i l)
-part-at P l i e h =
-    let z : e - i ≡ length (leading P (drop i l)) = omega (arith, h) in
-    sym (ap (λ (n : ℕ). take n (drop i l)) z ∙ take-leading P (drop i l))
-
 -- the byte behind them does not pass
 fails-more : (P : ℕ → Bool) (b : ℕ) (l : List ℕ) → (0 < length (behind P l) → P (getD (behind P l) 0 0) ≡ false) → (c : Bool) → P b ≡ c
     → 0 < length (behind P (b ∷ l)) → P (getD (behind P (b ∷ l)) 0 0) ≡ false
@@ -80,7 +75,7 @@ leading-more : (P : ℕ → Bool) (b : ℕ) (l : List ℕ) → length (leading P
 leading-more P b l ih true e = simp e (omega (arith, ih))
 leading-more P b l ih false e = simp e (omega arith)
 
-leading-short : (P : ℕ → Bool) (l : List ℕ) → length (leading P l) ≤ length l
+pub leading-short : (P : ℕ → Bool) (l : List ℕ) → length (leading P l) ≤ length l
 leading-short P [] = omega arith
 leading-short P (b ∷ l) = leading-more P b l (leading-short P l) (P b) refl
 

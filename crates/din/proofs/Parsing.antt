@@ -1,128 +1,205 @@
--- A whole line parsed by places: what each test of `parse` tells.
+-- The first line of some bytes, parsed in place: what each test of `first_line` and `rest_of_line` tells.
 use Prim.Native.Nat.{ℕ, zero, suc, _+_, _-_, _≤_, _<_}
 use mathlib.Core.Path.{_≡_, refl, sym, ap, _∙_}
-use mathlib.Core.Bool.{Bool, true, false, _&&_, cond}
+use mathlib.Core.Bool.{Bool, true, false, cond}
 use mathlib.Core.List.{List, [], _∷_}
 use native.Mathlib.Omega.{arith}
-use lib.ListN.{length, drop, getD}
-use lib.Seq.{drop-cons, drop-length}
-use lib.Dec.{leb, eqb}
-use borrow.Author.Tests.{le-leb, lt-leb, eqb-true}
-use Rattle.din.specs.Lines.{isDigit, isBlank, isGap, isHex, leading, behind, hexNumber, ends, addressed, separated, parsedLine, parsed}
-use Rattle.din.specs.Automaton.{shiftedAll, newLine, isStart, isNew, withBytes, scanParsed}
-use Rattle.din.specs.declared.Scan.{Scan}
-use Rattle.din.specs.declared.Scan.the-variants.{Start, Label, Blanks, Digits, Rest, Bad}
-use Rattle.din.specs.declared.Line.{Line}
+use lib.ListN.{length, drop, getD, length-drop}
+use lib.Seq.{drop-cons}
+use lib.Dec.{leb}
+use borrow.Author.Tests.{le-leb, lt-leb, eqb-true, not-false}
+use Rattle.din.specs.Lines.{isText, isDigit, isBlank, isGap, hexValue, isHex, leading, behind, ends, addressed, separated, parsedLine, parsed}
+use Rattle.din.specs.Automaton.{shiftedAll}
 use Rattle.din.specs.declared.Parsed.{Parsed}
 use Rattle.din.specs.declared.Parsed.the-variants.{Malformed, Labelled}
-use Rattle.din.proofs.Reading.{read-parsed}
-use Rattle.din.proofs.Leading.{Ends-at, rest-at, digits-kept}
+use Rattle.din.proofs.Leading.{leads, Ends-at, rest-at, drop-leading, leading-short, leading-within, digit-bounds, digits-kept, is-text}
 
--- ---- the byte behind the leading ones
+-- ---- bytes that pass a test that no newline passes stand in the first line
 
-ends-within : (P : ℕ → Bool) (l : List ℕ) (i e : ℕ) → Ends-at P l i e → e < length l → ends (behind P (drop i l)) ≡ isGap (getD l e 0)
-ends-within P l i e h k = ap ends (rest-at P l i e h ∙ drop-cons l e 0 k)
+-- a byte that ends a line does not pass
+newline-fails : (P : ℕ → Bool) → P 10 ≡ false → (b : ℕ) → isText b ≡ false → P b ≡ false
+unfolding isText
+newline-fails P n b e = ap P (eqb-true b 10 (not-false _ e)) ∙ n
 
-ends-last : (P : ℕ → Bool) (l : List ℕ) (i e : ℕ) → Ends-at P l i e → e ≡ length l → ends (behind P (drop i l)) ≡ true
-ends-last P l i e h k = ap ends (rest-at P l i e h ∙ ap (λ (n : ℕ). drop n l) k ∙ drop-length l)
+leading-more : (P : ℕ → Bool) (b : ℕ) (l : List ℕ) → leading P (leading isText l) ≡ leading P l → P 10 ≡ false → (c : Bool) → isText b ≡ c
+    → leading P (leading isText (b ∷ l)) ≡ leading P (b ∷ l)
+leading-more P b l ih n true e = simp (e, ih)
+leading-more P b l ih n false e = simp (e, newline-fails P n b e)
 
--- ---- the address
+leading-text : (P : ℕ → Bool) → P 10 ≡ false → (l : List ℕ) → leading P (leading isText l) ≡ leading P l
+leading-text P n [] = refl
+leading-text P n (b ∷ l) = leading-more P b l (leading-text P n l) n (isText b) refl
 
-pub address-none : (d : ℕ) (l : List ℕ) (i e : ℕ) → Ends-at isHex l i e → e - i < 1 → Malformed ≡ addressed d (drop i l)
+behind-more : (P : ℕ → Bool) (b : ℕ) (l : List ℕ) → behind P (leading isText l) ≡ leading isText (behind P l) → P 10 ≡ false → (c d : Bool) → isText b ≡ c → P b ≡ d
+    → behind P (leading isText (b ∷ l)) ≡ leading isText (behind P (b ∷ l))
+behind-more P b l ih n true true e f = simp (e, f, ih)
+behind-more P b l ih n true false e f = simp (e, f)
+behind-more P b l ih n false d e f = simp (e, newline-fails P n b e)
+
+behind-text : (P : ℕ → Bool) → P 10 ≡ false → (l : List ℕ) → behind P (leading isText l) ≡ leading isText (behind P l)
+behind-text P n [] = refl
+behind-text P n (b ∷ l) = behind-more P b l (behind-text P n l) n (isText b) (P b) refl refl
+
+-- the line ends where it is found to end from behind those bytes on
+same-end : (P : ℕ → Bool) → P 10 ≡ false → (s : List ℕ) (i e : ℕ) → Ends-at P s i e
+    → e + length (leading isText (drop e s)) ≡ i + length (leading isText (drop i s))
+same-end P n s i e h =
+    let l = leading isText (drop i s) in
+    let few : length (leading P l) ≤ length l = leading-short P l in
+    let rest : length (behind P l) ≡ length l - length (leading P l) = sym (ap length (drop-leading P l)) ∙ length-drop (length (leading P l)) l in
+    let same : length (leading P l) ≡ length (leading P (drop i s)) = ap length (leading-text P n (drop i s)) in
+    let tail : length (behind P l) ≡ length (leading isText (drop e s)) = ap length (behind-text P n (drop i s) ∙ ap (leading isText) (rest-at P s i e h)) in
+    omega (arith, h, few, rest, same, tail)
+
+-- no newline is a hexadecimal digit, and none is a blank
+hex-newline : isHex 10 ≡ false
+unfolding isHex hexValue
+hex-newline = refl
+
+blank-newline : isBlank 10 ≡ false
+unfolding isBlank
+blank-newline = refl
+
+pub digits-line : (s : List ℕ) (i e z : ℕ) → Ends-at isHex s i e → Ends-at isText s e z → Ends-at isText s i z
+digits-line s i e z h k = k ∙ same-end isHex hex-newline s i e h
+
+-- ---- the byte at the front of a line
+
+front-more : (b : ℕ) (l : List ℕ) (c : Bool) → isText b ≡ c → 0 < length (leading isText (b ∷ l)) → ends (leading isText (b ∷ l)) ≡ isGap b
+front-more b l true e = simp e (λ h. refl)
+front-more b l false e = simp e (λ h. absurd (omega (arith, h)))
+
+front : (l : List ℕ) → 0 < length (leading isText l) → ends (leading isText l) ≡ isGap (getD l 0 0)
+front [] = λ h. absurd (omega (arith, h))
+front (b ∷ l) = front-more b l (isText b) refl
+
+no-front : (l : List ℕ) → length l ≡ 0 → ends l ≡ true
+no-front [] h = refl
+no-front (b ∷ l) h = absurd (omega arith)
+
+-- ---- the address from place i on, whose digits end at place e, in a line that ends at place z
+
+-- the rest of a line from its address on
+abbrev pub addressAt : ℕ → List ℕ → ℕ → Parsed
+addressAt d s i = addressed d (leading isText (drop i s))
+
+pub address-none : (d : ℕ) (s : List ℕ) (i e : ℕ) → Ends-at isHex s i e → e - i < 1 → Malformed ≡ addressAt d s i
 unfolding addressed
-address-none d l i e z h = simp (lt-leb 1 (length (leading isHex (drop i l))) (omega (arith, z, h)))
+address-none d s i e z h =
+    simp (leading-text isHex hex-newline (drop i s), lt-leb 1 (length (leading isHex (drop i s))) (omega (arith, z, h)))
 
-pub address-long : (d : ℕ) (l : List ℕ) (i e : ℕ) → Ends-at isHex l i e → 8 < e - i → Malformed ≡ addressed d (drop i l)
+pub address-long : (d : ℕ) (s : List ℕ) (i e : ℕ) → Ends-at isHex s i e → 8 < e - i → Malformed ≡ addressAt d s i
 unfolding addressed
-address-long d l i e z h =
-    simp (le-leb 1 (length (leading isHex (drop i l))) (omega (arith, z, h)), lt-leb (length (leading isHex (drop i l))) 8 (omega (arith, z, h)))
+address-long d s i e z h =
+    let n = length (leading isHex (drop i s)) in
+    simp (leading-text isHex hex-newline (drop i s), le-leb 1 n (omega (arith, z, h)), lt-leb n 8 (omega (arith, z, h)))
 
 -- 1 to 8 digits, and what stands behind them
-digits-few : (d : ℕ) (l : List ℕ) (i e : ℕ) → Ends-at isHex l i e → 1 ≤ e - i → e - i ≤ 8
-    → addressed d (drop i l) ≡ cond (ends (behind isHex (drop i l))) (Labelled d (shiftedAll 0 (leading isHex (drop i l)))) Malformed
+digits-few : (d : ℕ) (s : List ℕ) (i e : ℕ) → Ends-at isHex s i e → 1 ≤ e - i → e - i ≤ 8
+    → addressAt d s i ≡ cond (ends (leading isText (drop e s))) (Labelled d (shiftedAll 0 (leading isHex (drop i s)))) Malformed
 unfolding addressed
-digits-few d l i e z h k =
-    let n : length (leading isHex (drop i l)) ≤ 8 = omega (arith, z, k) in
-    simp (le-leb 1 (length (leading isHex (drop i l))) (omega (arith, z, h)), le-leb (length (leading isHex (drop i l))) 8 n)
-    (ap (λ (v : ℕ). cond (ends (behind isHex (drop i l))) (Labelled d v) Malformed) (sym (digits-kept (drop i l) n)))
+digits-few d s i e z h k =
+    let n : length (leading isHex (drop i s)) ≤ 8 = omega (arith, z, k) in
+    simp (
+      leading-text isHex hex-newline (drop i s),
+      behind-text isHex hex-newline (drop i s),
+      rest-at isHex s i e z,
+      le-leb 1 (length (leading isHex (drop i s))) (omega (arith, z, h)),
+      le-leb (length (leading isHex (drop i s))) 8 n,
+    )
+    (ap (λ (v : ℕ). cond (ends (leading isText (drop e s))) (Labelled d v) Malformed) (sym (digits-kept (drop i s) n)))
 
-pub address-bad : (d : ℕ) (l : List ℕ) (i e : ℕ) → Ends-at isHex l i e → 1 ≤ e - i → e - i ≤ 8 → e < length l → isGap (getD l e 0) ≡ false
-    → Malformed ≡ addressed d (drop i l)
-address-bad d l i e z h k m g = sym (digits-few d l i e z h k ∙ simp (ends-within isHex l i e z m ∙ g))
+-- the byte behind the digits, if the line has one
+pub within-line : (s : List ℕ) (i e z : ℕ) → i ≤ length s → Ends-at isHex s i e → Ends-at isText s e z → e < z → e < length s
+within-line s i e z h x y k =
+    let w : e ≤ length s = omega (arith, x, leading-within isHex s i h) in
+    omega (arith, y, k, leading-within isText s e w)
 
-pub address-good : (d : ℕ) (l : List ℕ) (i e v : ℕ) → Ends-at isHex l i e → 1 ≤ e - i → e - i ≤ 8 → e < length l → isGap (getD l e 0) ≡ true
-    → v ≡ shiftedAll 0 (leading isHex (drop i l)) → Labelled d v ≡ addressed d (drop i l)
-address-good d l i e v z h k m g x = ap (Labelled d) x ∙ sym (digits-few d l i e z h k ∙ simp (ends-within isHex l i e z m ∙ g))
+ends-within : (s : List ℕ) (e z : ℕ) → e < length s → Ends-at isText s e z → e < z → ends (leading isText (drop e s)) ≡ isGap (getD s e 0)
+ends-within s e z k y h = front (drop e s) (omega (arith, y, h)) ∙ ap (λ (l : List ℕ). isGap (getD l 0 0)) (drop-cons s e 0 k)
 
-pub address-last : (d : ℕ) (l : List ℕ) (i e v : ℕ) → Ends-at isHex l i e → 1 ≤ e - i → e - i ≤ 8 → e ≡ length l
-    → v ≡ shiftedAll 0 (leading isHex (drop i l)) → Labelled d v ≡ addressed d (drop i l)
-address-last d l i e v z h k m x = ap (Labelled d) x ∙ sym (digits-few d l i e z h k ∙ simp (ends-last isHex l i e z m))
+pub address-bad : (d : ℕ) (s : List ℕ) (i e z : ℕ) → i ≤ length s → Ends-at isHex s i e → Ends-at isText s e z → 1 ≤ e - i → e - i ≤ 8 → e < z → isGap (getD s e 0) ≡ false
+    → Malformed ≡ addressAt d s i
+address-bad d s i e z l x y h k m g = sym (digits-few d s i e x h k ∙ simp (ends-within s e z (within-line s i e z l x y m) y m ∙ g))
+
+pub address-good : (d : ℕ) (s : List ℕ) (i e z v : ℕ) → i ≤ length s → Ends-at isHex s i e → Ends-at isText s e z → 1 ≤ e - i → e - i ≤ 8 → e < z → isGap (getD s e 0) ≡ true
+    → v ≡ shiftedAll 0 (leading isHex (drop i s)) → Labelled d v ≡ addressAt d s i
+address-good d s i e z v l x y h k m g n = ap (Labelled d) n ∙ sym (digits-few d s i e x h k ∙ simp (ends-within s e z (within-line s i e z l x y m) y m ∙ g))
+
+pub address-last : (d : ℕ) (s : List ℕ) (i e z v : ℕ) → Ends-at isHex s i e → Ends-at isText s e z → 1 ≤ e - i → e - i ≤ 8 → z ≤ e
+    → v ≡ shiftedAll 0 (leading isHex (drop i s)) → Labelled d v ≡ addressAt d s i
+address-last d s i e z v x y h k m n = ap (Labelled d) n ∙ sym (digits-few d s i e x h k ∙ simp (no-front (leading isText (drop e s)) (omega (arith, y, m))))
 
 -- ---- the line
 
-pub too-wide : (l : List ℕ) → 80 < length l → Malformed ≡ parsed l
+narrow-or-wide : (l : List ℕ) → parsedLine l ≡ Malformed → (c : Bool) → leb (length l) 80 ≡ c → Malformed ≡ parsed l
+unfolding parsed
+narrow-or-wide l h true e = simp (e, h)
+narrow-or-wide l h false e = simp e
+
+-- whatever its width
+malformed-line : (l : List ℕ) → parsedLine l ≡ Malformed → Malformed ≡ parsed l
+malformed-line l h = narrow-or-wide l h (leb (length l) 80) refl
+
+too-wide : (l : List ℕ) → 80 < length l → Malformed ≡ parsed l
 unfolding parsed
 too-wide l h = simp (lt-leb (length l) 80 h)
 
-pub no-bytes : (l : List ℕ) → length l < 1 → Malformed ≡ parsed l
-unfolding parsed
-no-bytes [] h = refl
-no-bytes (b ∷ l) h = absurd (omega arith)
-
-narrow : (l : List ℕ) → length l ≤ 80 → parsed l ≡ parsedLine l
+narrow : (l : List ℕ) → length l ≤ 80 → parsedLine l ≡ parsed l
 unfolding parsed
 narrow l h = simp (le-leb (length l) 80 h)
 
-pub no-label : (l : List ℕ) → length l ≤ 80 → 1 ≤ length l → isDigit (getD l 0 0) ≡ false → Malformed ≡ parsed l
-no-label [] h k e = absurd (omega arith)
-no-label (b ∷ l) h k e = sym (narrow (b ∷ l) h ∙ simp e)
+-- the first line of the bytes s: no bytes at all
+pub no-bytes : (s : List ℕ) → length s < 1 → (0 ≡ length (leading isText s)) × (Malformed ≡ parsed (leading isText s))
+no-bytes [] h = (refl, malformed-line [] refl)
+no-bytes (b ∷ l) h = absurd (omega arith)
 
-pub no-blank : (l : List ℕ) → length l ≤ 80 → 1 ≤ length l → isDigit (getD l 0 0) ≡ true → length (leading isBlank (drop 1 l)) ≡ 0 → Malformed ≡ parsed l
+label-more : (b : ℕ) (l : List ℕ) (c : Bool) → isText b ≡ c → isDigit b ≡ false → parsedLine (leading isText (b ∷ l)) ≡ Malformed
+label-more b l true e h = simp (e, h)
+label-more b l false e h = simp e
+
+-- no label
+pub no-label : (s : List ℕ) → isDigit (getD s 0 0) ≡ false → Malformed ≡ parsed (leading isText s)
+no-label [] h = malformed-line [] refl
+no-label (b ∷ l) h = malformed-line (leading isText (b ∷ l)) (label-more b l (isText b) refl h)
+
+-- a label stands at its front
+abbrev pub Labels : List ℕ → Type 0
+Labels s = (1 ≤ length s) × (isDigit (getD s 0 0) ≡ true)
+
+label-first : (s : List ℕ) → Labels s → leading isText s ≡ getD s 0 0 ∷ leading isText (drop 1 s)
+label-first s h = leads isText s 0 (h .0) (is-text (getD s 0 0) (λ (z : getD s 0 0 ≡ 10). omega (arith, z, digit-bounds (getD s 0 0) (h .1) .0)))
+
+-- the line ends where it is found to end from behind the label on
+pub label-line : (s : List ℕ) (z : ℕ) → Labels s → Ends-at isText s 1 z → z ≡ length (leading isText s)
+label-line s z h y = y ∙ sym (ap length (label-first s h) ∙ omega arith)
+
+-- no blank behind the label
+pub no-blank : (s : List ℕ) → Labels s → length (leading isBlank (drop 1 s)) ≡ 0 → Malformed ≡ parsed (leading isText s)
 unfolding separated
-no-blank [] h k e z = absurd (omega arith)
-no-blank (b ∷ l) h k e z = sym (narrow (b ∷ l) h ∙ simp (e, z))
+no-blank s h z =
+    malformed-line (leading isText s)
+    (ap parsedLine (label-first s h) ∙ simp (h .1, leading-text isBlank blank-newline (drop 1 s), z))
 
-some : (n : ℕ) → (n ≡ 0 → ⊥) → 1 ≤ n
-some zero y = absurd (y refl)
-some (suc n) y = omega arith
+-- blanks up to place i, from which on the line ends at place z
+pub same-line : (s : List ℕ) (i z : ℕ) → Labels s → Ends-at isBlank s 1 i → Ends-at isText s i z → z ≡ length (leading isText s)
+same-line s i z h x y = label-line s z h (y ∙ same-end isBlank blank-newline s 1 i x)
 
-pub an-address : (l : List ℕ) (i : ℕ) → length l ≤ 80 → 1 ≤ length l → isDigit (getD l 0 0) ≡ true → i ≡ 1 + length (leading isBlank (drop 1 l)) → (i ≡ 1 → ⊥)
-    → addressed (getD l 0 0 - 48) (drop i l) ≡ parsed l
+an-address : (s : List ℕ) (i : ℕ) → Labels s → Ends-at isBlank s 1 i → (i ≡ 1 → ⊥) → addressAt (getD s 0 0 - 48) s i ≡ parsedLine (leading isText s)
 unfolding separated
-an-address [] i h k e z n = absurd (omega arith)
-an-address (b ∷ l) i h k e z n =
+an-address s i h x n =
+    let some : 1 ≤ length (leading isBlank (drop 1 s)) = more (length (leading isBlank (drop 1 s))) (λ (y : length (leading isBlank (drop 1 s)) ≡ 0). n (omega (arith, x, y))) in
     sym
-    (narrow (b ∷ l) h
-    ∙ simp (e, le-leb 1 (length (leading isBlank l)) (some (length (leading isBlank l)) (λ (y : length (leading isBlank l) ≡ 0). n (omega (arith, z, y)))))
-    (ap (addressed (b - 48)) (rest-at isBlank (b ∷ l) 1 i z)))
+    (ap parsedLine (label-first s h)
+    ∙ simp (h .1, leading-text isBlank blank-newline (drop 1 s), behind-text isBlank blank-newline (drop 1 s), rest-at isBlank s 1 i x, le-leb 1 (length (leading isBlank (drop 1 s))) some))
+  where
+    more : (k : ℕ) → (k ≡ 0 → ⊥) → 1 ≤ k
+    more zero y = absurd (y refl)
+    more (suc k) y = omega arith
 
--- ---- a line of no bytes yet
+pub wide-line : (s : List ℕ) (i z : ℕ) → Labels s → Ends-at isBlank s 1 i → Ends-at isText s i z → 80 < z → Malformed ≡ parsed (leading isText s)
+wide-line s i z h x y w = too-wide (leading isText s) (omega (arith, w, same-line s i z h x y))
 
-false-true : {A : Type 0} → false ≡ true → A
-false-true e = let z : _≡_ {A = ℕ} 0 1 = cc in absurd (omega arith)
-
-start-only : (x : Scan) → isStart x ≡ true → x ≡ Start
-unfolding isStart
-start-only Start e = refl
-start-only (Label d) e = false-true e
-start-only (Blanks d) e = false-true e
-start-only (Digits d n v) e = false-true e
-start-only (Rest d v) e = false-true e
-start-only Bad e = false-true e
-
-line-path : (x y : Line) → x .width ≡ y .width → x .scan ≡ y .scan → x ≡ y
-line-path x y e f = λ i. record { width = e i; scan = f i }
-
-both : (c d : Bool) → (c && d) ≡ true → (c ≡ true) × (d ≡ true)
-both true d e = (refl, e)
-both false d e = false-true e
-
-pub new-only : (x : Line) → isNew x ≡ true → x ≡ newLine
-unfolding isNew
-new-only x e =
-    let z = both (eqb (x .width) 0) (isStart (x .scan)) e in
-    line-path x newLine (eqb-true _ _ (z .0)) (start-only (x .scan) (z .1))
-
--- such a line that ends with the bytes l
-pub whole-line : (x : Line) (l : List ℕ) → isNew x ≡ true → parsed l ≡ scanParsed (withBytes x l .scan)
-whole-line x l e = sym (ap (λ (y : Line). scanParsed (withBytes y l .scan)) (new-only x e) ∙ read-parsed l)
+pub narrow-line : (s : List ℕ) (i z : ℕ) → Labels s → Ends-at isBlank s 1 i → (i ≡ 1 → ⊥) → Ends-at isText s i z → z ≤ 80
+    → addressAt (getD s 0 0 - 48) s i ≡ parsed (leading isText s)
+narrow-line s i z h x n y w = an-address s i h x n ∙ narrow (leading isText s) (omega (arith, w, same-line s i z h x y))

@@ -14,7 +14,6 @@ use Rattle.din.specs.Automaton.{shifted, afterBlanks, afterDigits, scann
 use Rattle.din.specs.declared.Scan.{Scan}
 use Rattle.din.specs.declared.Scan.the-variants.{Start, Label, Blanks, Digits, Rest, Bad}
 use Rattle.din.specs.declared.Line.{Line}
-use Rattle.din.specs.declared.Parsed.{Parsed}
 use Rattle.din.specs.declared.Parsed.the-variants.{Malformed, Labelled}
 
 -- the bytes of a line, its width apart

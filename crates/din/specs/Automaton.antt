@@ -1,8 +1,8 @@
 -- A line read byte by byte. That this gives `parsed` of the line's bytes is proved in proofs/Reading.antt.
 use Prim.Native.Nat.{ℕ, _+_, _-_, _*_, _%_}
-use mathlib.Core.Bool.{Bool, true, false, _&&_, cond}
+use mathlib.Core.Bool.{cond}
 use mathlib.Core.List.{List, [], _∷_}
-use lib.Dec.{ltb, eqb}
+use lib.Dec.{ltb}
 use Rattle.din.specs.Lines.{isDigit, isBlank, isGap, hexValue, isHex}
 use Rattle.din.specs.declared.Scan.{Scan}
 use Rattle.din.specs.declared.Scan.the-variants.{Start, Label, Blanks, Digits, Rest, Bad}
@@ -40,18 +40,6 @@ scannedByte Bad b = Bad
 -- a line of no bytes
 abbrev pub newLine : Line
 newLine = record { width = 0; scan = Start }
-
--- no byte has come
-unfoldable pub isStart : Scan → Bool
-isStart Start = true
-isStart (Label d) = false
-isStart (Blanks d) = false
-isStart (Digits d n v) = false
-isStart (Rest d v) = false
-isStart Bad = false
-
-unfoldable pub isNew : Line → Bool
-isNew x = eqb (x .width) 0 && isStart (x .scan)
 
 -- the line with one byte more; past 80 bytes only that it is too long is kept
 unfoldable pub withByte : Line → ℕ → Line

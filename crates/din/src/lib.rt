@@ -1,11 +1,9 @@
 // The bytes of a line of a din trace. Of a line that is not whole yet only a few numbers are kept, however long it is.
 ghost use mathlib.Core.Path.{_≡_};
 ghost use Prim.Native.Nat.{_+_, _<_, _≤_};
-ghost use mathlib.Core.Bool.{cond};
 ghost use lib.ListN.{length, drop};
-ghost use lib.Dec.{ltb};
 ghost use Rattle.din.specs.Lines.{isText, isDigit, isBlank, isGap, hexValue, isHex, leading, addressed, parsed};
-ghost use Rattle.din.specs.Automaton.{shifted, shiftedAll, afterBlanks, afterDigits, scannedByte, newLine, isStart, isNew, withByte, withBytes, scanParsed};
+ghost use Rattle.din.specs.Automaton.{shifted, shiftedAll, afterBlanks, afterDigits, scannedByte, newLine, withByte, withBytes, scanParsed};
 
 // What a line is: malformed, or a label and an address.
 pub enum Parsed {
@@ -146,19 +144,6 @@ impl Scan {
         }
     }
 
-    fn is_start(self) -> bool
-        ensures { λ r. ⌜ r ≡ isStart self ⌝ }
-    {
-        match self {
-            Scan::Start => true,
-            Scan::Label(_) => false,
-            Scan::Blanks(_) => false,
-            Scan::Digits(_, _, _) => false,
-            Scan::Rest(_, _) => false,
-            Scan::Bad => false,
-        }
-    }
-
     pub fn parsed(self) -> Parsed
         ensures { λ r. ⌜ r ≡ scanParsed self ⌝ }
     {
@@ -183,14 +168,14 @@ fn is_digit(b: u8) -> bool
     b <= b'9'
 }
 
-// The first place from `from` on that has no blank or tab, or the line's end.
-fn blanks_end(line: &[u8], from: usize) -> usize
-    requires { ⌜ from ≤ length (now line) ⌝ }
-    ensures { λ r. ⌜ r ≡ from + length (leading isBlank (drop from (now (line .entry)))) ⌝ }
+// The first place from `from` on that has no blank or tab, or the bytes' end.
+fn blanks_end(bytes: &[u8], from: usize) -> usize
+    requires { ⌜ from ≤ length (now bytes) ⌝ }
+    ensures { λ r. ⌜ r ≡ from + length (leading isBlank (drop from (now (bytes .entry)))) ⌝ }
 {
     let mut i = from;
-    while i < line.len() {
-        if !is_blank(line[i]) {
+    while i < bytes.len() {
+        if !is_blank(bytes[i]) {
             break;
         }
         i += 1;
@@ -204,14 +189,14 @@ struct Address {
     number: u32,
 }
 
-fn address_at(line: &[u8], from: usize) -> Address
-    requires { ⌜ from ≤ length (now line) ⌝ }
-    ensures { λ r. ⌜ (r .end ≡ from + length (leading isHex (drop from (now (line .entry))))) × (r .number ≡ shiftedAll 0 (leading isHex (drop from (now (line .entry))))) ⌝ }
+fn address_at(bytes: &[u8], from: usize) -> Address
+    requires { ⌜ from ≤ length (now bytes) ⌝ }
+    ensures { λ r. ⌜ (r .end ≡ from + length (leading isHex (drop from (now (bytes .entry))))) × (r .number ≡ shiftedAll 0 (leading isHex (drop from (now (bytes .entry))))) ⌝ }
 {
     let mut i = from;
     let mut number = 0;
-    while i < line.len() {
-        let digit = hex_value(line[i]);
+    while i < bytes.len() {
+        let digit = hex_value(bytes[i]);
         if digit > 15 {
             break;
         }
@@ -224,48 +209,89 @@ fn address_at(line: &[u8], from: usize) -> Address
     }
 }
 
-// The address from a place on, of a line with this label.
-fn parse_address(label: u32, line: &[u8], from: usize) -> Parsed
-    requires { ⌜ from ≤ length (now line) ⌝ }
-    ensures { λ r. ⌜ r ≡ addressed label (drop from (now (line .entry))) ⌝ }
+// The place of the first newline from `from` on, or the bytes' end.
+pub fn line_end(bytes: &[u8], from: usize) -> usize
+    requires { ⌜ from ≤ length (now bytes) ⌝ }
+    ensures { λ r. ⌜ r ≡ from + length (leading isText (drop from (now (bytes .entry)))) ⌝ }
 {
-    let address = address_at(line, from);
-    let end = address.end;
-    let count = end - from;
-    if count < 1 {
-        return Parsed::Malformed;
-    }
-    if count > 8 {
-        return Parsed::Malformed;
-    }
-    if end < line.len() {
-        if !is_gap(line[end]) {
-            return Parsed::Malformed;
+    let mut i = from;
+    while i < bytes.len() {
+        if bytes[i] == b'\n' {
+            break;
         }
+        i += 1;
     }
-    Parsed::Labelled(label, address.number)
+    i
 }
 
-// What the bytes of a whole line are.
-pub fn parse(line: &[u8]) -> Parsed
-    ensures { λ r. ⌜ r ≡ parsed (now (line .entry)) ⌝ }
+// The first line of some bytes: what it is, and the place of its newline, or the bytes' end.
+pub struct FirstLine {
+    pub parsed: Parsed,
+    pub end: usize,
+}
+
+// The rest of a line with this label, from its address on. That a line may be too wide plays no part here.
+fn rest_of_line(label: u32, bytes: &[u8], from: usize) -> FirstLine
+    requires { ⌜ from ≤ length (now bytes) ⌝ }
+    ensures { λ r. ⌜ (r .end ≡ from + length (leading isText (drop from (now (bytes .entry))))) × (r .parsed ≡ addressed label (leading isText (drop from (now (bytes .entry))))) ⌝ }
 {
-    let width = line.len();
-    if width > 80 {
-        return Parsed::Malformed;
+    let address = address_at(bytes, from);
+    let behind = address.end;
+    let end = line_end(bytes, behind);
+    let malformed = FirstLine {
+        parsed: Parsed::Malformed,
+        end: end,
+    };
+    let count = behind - from;
+    if count < 1 {
+        return malformed;
     }
-    if width < 1 {
-        return Parsed::Malformed;
+    if count > 8 {
+        return malformed;
     }
-    let first = line[0];
+    if behind < end {
+        if !is_gap(bytes[behind]) {
+            return malformed;
+        }
+    }
+    FirstLine {
+        parsed: Parsed::Labelled(label, address.number),
+        end: end,
+    }
+}
+
+// The first line of some bytes, in one pass.
+pub fn first_line(bytes: &[u8]) -> FirstLine
+    ensures { λ r. ⌜ (r .end ≡ length (leading isText (now (bytes .entry)))) × (r .parsed ≡ parsed (leading isText (now (bytes .entry)))) ⌝ }
+{
+    if bytes.len() < 1 {
+        return FirstLine {
+            parsed: Parsed::Malformed,
+            end: 0,
+        };
+    }
+    let first = bytes[0];
     if !is_digit(first) {
-        return Parsed::Malformed;
+        return FirstLine {
+            parsed: Parsed::Malformed,
+            end: line_end(bytes, 0),
+        };
     }
-    let from = blanks_end(line, 1);
+    let from = blanks_end(bytes, 1);
     if from == 1 {
-        return Parsed::Malformed;
+        return FirstLine {
+            parsed: Parsed::Malformed,
+            end: line_end(bytes, 1),
+        };
     }
-    parse_address((first - b'0') as u32, line, from)
+    let rest = rest_of_line((first - b'0') as u32, bytes, from);
+    if rest.end > 80 {
+        return FirstLine {
+            parsed: Parsed::Malformed,
+            end: rest.end,
+        };
+    }
+    rest
 }
 
 impl Line {
@@ -310,28 +336,6 @@ impl Line {
         line
     }
 
-    // Whether the line has no bytes yet.
-    fn is_new(self) -> bool
-        ensures { λ r. ⌜ r ≡ isNew self ⌝ }
-    {
-        let scan = self.scan;
-        if self.width != 0 {
-            return false;
-        }
-        scan.is_start()
-    }
-
-    // What the line is, if it ends with these bytes. A line that lies whole in one chunk is parsed where it is.
-    pub fn ended(self, last: &[u8]) -> Parsed
-        ensures { λ r. ⌜ r ≡ scanParsed (withBytes self (now (last .entry)) .scan) ⌝ }
-    {
-        if self.is_new() {
-            return parse(last);
-        }
-        let line = self.bytes(last);
-        line.parsed()
-    }
-
     // What the line is, if it ends here.
     pub fn parsed(self) -> Parsed
         ensures { λ r. ⌜ r ≡ scanParsed (self .scan) ⌝ }
@@ -339,32 +343,4 @@ impl Line {
         let scan = self.scan;
         scan.parsed()
     }
-}
-
-// ---- the lines of a trace
-
-// The place of the first newline from `from` on, or the bytes' end.
-pub fn line_end(bytes: &[u8], from: usize) -> usize
-    requires { ⌜ from ≤ length (now bytes) ⌝ }
-    ensures { λ r. ⌜ r ≡ from + length (leading isText (drop from (now (bytes .entry)))) ⌝ }
-{
-    let mut i = from;
-    while i < bytes.len() {
-        if bytes[i] == b'\n' {
-            break;
-        }
-        i += 1;
-    }
-    i
-}
-
-// The start of the line after one that ends at a newline, or the bytes' end.
-pub fn next_line(bytes: &[u8], end: usize) -> usize
-    requires { ⌜ end ≤ length (now bytes) ⌝ }
-    ensures { λ r. ⌜ r ≡ cond (ltb end (length (now (bytes .entry)))) (end + 1) end ⌝ }
-{
-    if end < bytes.len() {
-        return end + 1;
-    }
-    end
 }

@@ -1,23 +1,24 @@
--- The laws of `fed`: piece by piece along a list, and chunk by chunk.
+-- The laws of `fed`: line by line along a list, and chunk by chunk.
 use Prim.Native.Nat.{ℕ, suc, _+_, _-_, _≤_, _<_}
 use native.Mathlib.Omega.{arith}
 use mathlib.Core.Path.{_≡_, refl, sym, ap, _∙_}
-use mathlib.Core.Bool.{Bool, true, false, not, cond}
+use mathlib.Core.Bool.{Bool, true, false}
 use mathlib.Core.List.{List, [], _∷_, _++_}
 use native.Mathlib.Numerals.{add-one}
-use lib.ListN.{length, take, drop, getD}
-use lib.Seq.{drop-cons, drop-length}
-use lib.Dec.{ltb, eqb}
-use borrow.Author.Tests.{not-true, not-false, ltb-true, ltb-false}
-use Rattle.din.specs.Lines.{isText, leading, behind}
-use Rattle.din.proofs.Leading.{Ends-at, rest-at, part-at, fails-at}
+use lib.ListN.{length, take, drop, getD, length-drop}
+use lib.Seq.{drop-cons, drop-length, drop-drop, take-all, take-length}
+use lib.Dec.{eqb}
+use borrow.Author.Tests.{not-true, not-false, eq-eqb}
+use Rattle.din.specs.Lines.{isText, leading, behind, parsed}
+use Rattle.din.specs.Automaton.{withBytes, scanParsed}
+use Rattle.din.specs.declared.Line.{Line}
+use Rattle.din.proofs.Leading.{Ends-at, take-leading, drop-leading, leading-short, fails-at}
+use Rattle.din.proofs.Reading.{read-parsed}
+use Rattle.din.specs.declared.Parsed.{Parsed}
 use Rattle.protocol.specs.Refusals.{noRefusal}
-use Rattle.trace.specs.Counting.{Stage, lineEnded, lengthened, stepped, fed, extended, pieced, Ready}
-use Rattle.trace.proofs.Laws.{ready-stepped}
-
--- past the end
-pub fed-end : (x : Stage) (s : List ℕ) (i : ℕ) → i ≡ length s → fed x (drop i s) ≡ x
-fed-end x s i e = rw (e, drop-length)
+use Rattle.protocol.specs.Runs.{State}
+use Rattle.trace.specs.Counting.{Stage, stateOf, lineNumber, withinLine, goingOn, judged, lineEnded, lengthened, stepped, fed, Ready}
+use Rattle.trace.proofs.Laws.{ready-stepped, ended-as}
 
 -- where the input is cut plays no part
 pub fed-append : (x : Stage) (a b : List ℕ) → fed x (a ++ b) ≡ fed (fed x a) b
@@ -37,7 +38,14 @@ pub refused-stays : (x : Stage) (s : List ℕ) → eqb (x .count .refusal) noRef
 refused-stays x [] e = refl
 refused-stays x (b ∷ s) e = ap (λ (y : Stage). fed y s) (refused-byte x b e) ∙ refused-stays x s e
 
--- ---- a piece of a line
+-- ---- a line
+
+-- more bytes of the current line
+abbrev pub extended : Stage → List ℕ → Stage
+extended x l = record {
+  count = record { line = withBytes (x .count .line) l; account = x .count .account; refusal = x .count .refusal };
+  tables = x .tables;
+}
 
 -- bytes that are no newline lengthen the line
 text-byte : (x : Stage) (b : ℕ) → eqb (x .count .refusal) noRefusal ≡ true → isText b ≡ true → stepped x b ≡ lengthened x b
@@ -59,45 +67,63 @@ newline-byte : (x : Stage) (b : ℕ) → eqb (x .count .refusal) noRefusal ≡ t
 unfolding stepped isText
 newline-byte x b e t = simp (e, not-false (eqb b 10) t)
 
--- the piece from place i to the line's end e
-pub fed-piece : (x : Stage) (s : List ℕ) (i e : ℕ) → Ends-at isText s i e
-    → fed x (drop i s) ≡ fed (pieced x (take (e - i) (drop i s)) (ltb e (length s))) (drop (cond (ltb e (length s)) (e + 1) e) s)
-unfolding pieced
-fed-piece x s i e h = by-refusal (eqb (x .count .refusal) noRefusal) refl
-  where
-    piece : List ℕ
-    piece = take (e - i) (drop i s)
+-- bytes that are no newline, up to the end
+pub fed-cut : (x : Stage) (s : List ℕ) → x .count .refusal ≡ noRefusal → length (leading isText s) ≡ length s → fed x s ≡ extended x s
+fed-cut x s z h =
+    let rest : behind isText s ≡ [] = sym (drop-leading isText s) ∙ ap (λ (n : ℕ). drop n s) h ∙ drop-length s in
+    let whole : leading isText s ≡ s = sym (take-leading isText s) ∙ ap (λ (n : ℕ). take n s) h ∙ take-length s in
+    text-fed s x (eq-eqb _ _ z) ∙ ap (fed (extended x (leading isText s))) rest ∙ ap (extended x) whole
 
-    by-end : eqb (x .count .refusal) noRefusal ≡ true → (c : Bool) → ltb e (length s) ≡ c
-        → fed (extended x piece) (drop e s) ≡ fed (cond c (lineEnded (extended x piece)) (extended x piece)) (drop (cond c (e + 1) e) s)
-    by-end z true k =
-        ap (fed (extended x piece)) (drop-cons s e 0 (ltb-true e (length s) k))
-        ∙ ap (λ (y : Stage). fed y (drop (suc e) s)) (newline-byte (extended x piece) (getD s e 0) z (fails-at isText s i e h (ltb-true e (length s) k)))
-        ∙ ap (λ (n : ℕ). fed (lineEnded (extended x piece)) (drop n s)) (sym (add-one e))
-    by-end z false k = refl
+-- a line that ends at place e
+pub fed-line : (x : Stage) (s : List ℕ) (e : ℕ) → x .count .refusal ≡ noRefusal → e ≡ length (leading isText s) → e < length s
+    → fed x s ≡ fed (lineEnded (extended x (leading isText s))) (drop (e + 1) s)
+fed-line x s e z h k =
+    let y = extended x (leading isText s) in
+    let rest : behind isText s ≡ getD s e 0 ∷ drop (suc e) s = sym (drop-leading isText s) ∙ ap (λ (n : ℕ). drop n s) (sym h) ∙ drop-cons s e 0 k in
+    text-fed s x (eq-eqb _ _ z)
+    ∙ ap (fed y) rest
+    ∙ ap (λ (v : Stage). fed v (drop (suc e) s)) (newline-byte y (getD s e 0) (eq-eqb _ _ z) (fails-at isText s 0 e (h ∙ omega arith) k))
+    ∙ ap (λ (n : ℕ). fed (lineEnded y) (drop n s)) (sym (add-one e))
 
-    by-refusal : (c : Bool) → eqb (x .count .refusal) noRefusal ≡ c
-        → fed x (drop i s)
-        ≡ fed (cond (eqb (x .count .refusal) noRefusal) (cond (ltb e (length s)) (lineEnded (extended x piece)) (extended x piece)) x) (drop (cond (ltb e (length s)) (e + 1) e) s)
-    by-refusal true z =
-        simp z
-        (text-fed (drop i s) x z
-        ∙ ap (λ (l : List ℕ). fed (extended x l) (behind isText (drop i s))) (part-at isText s i e h)
-        ∙ ap (fed (extended x piece)) (rest-at isText s i e h)
-        ∙ by-end z (ltb e (length s)) refl)
-    by-refusal false z = simp z (refused-stays x (drop i s) z ∙ sym (refused-stays x (drop (cond (ltb e (length s)) (e + 1) e) s) z))
+-- ---- from the start of a line at place i on, r being what is left
 
--- the next piece starts later, and within the list
-pub next-later : (i e n k : ℕ) → i ≤ e → i < n → k ≡ cond (ltb e n) (e + 1) e → i < k
-next-later i e n k h m z = go (ltb e n) refl
-  where
-    go : (c : Bool) → ltb e n ≡ c → i < k
-    go true w = let y : k ≡ e + 1 = z ∙ simp w in omega (arith, h, y)
-    go false w = let y : k ≡ e = z ∙ simp w in omega (arith, h, m, y, ltb-false e n w)
+-- the part of a list from place i on
+pub rest-part : (s : List ℕ) (i : ℕ) → take (length s - i) (drop i s) ≡ drop i s
+rest-part s i = take-all (length s - i) (drop i s) (omega (arith, length-drop i s))
 
-pub next-within : (e n k : ℕ) → e ≤ n → k ≡ cond (ltb e n) (e + 1) e → k ≤ n
-next-within e n k h z = go (ltb e n) refl
-  where
-    go : (c : Bool) → ltb e n ≡ c → k ≤ n
-    go true w = let y : k ≡ e + 1 = z ∙ simp w in omega (arith, y, ltb-true e n w)
-    go false w = let y : k ≡ e = z ∙ simp w in omega (arith, h, y)
+-- the next line starts within the list
+pub next-within : (s r : List ℕ) (i e : ℕ) → r ≡ drop i s → e < length r → i + e + 1 ≤ length s
+next-within s r i e q h = omega (arith, h, ap length q ∙ length-drop i s)
+
+-- a line that is cut
+pub fed-within : (w : State) (s r : List ℕ) (i : ℕ) → r ≡ drop i s → length r ≤ length (leading isText r)
+    → record { count = withinLine (w .account) r; tables = w .tables } ≡ fed (goingOn w) (drop i s)
+fed-within w s r i q h = sym (fed-cut (goingOn w) r refl (omega (arith, h, leading-short isText r))) ∙ ap (fed (goingOn w)) q
+
+-- a line that ends at place e of the rest
+pub fed-judged : (w : State) (s r : List ℕ) (i e : ℕ) (y : Parsed) → r ≡ drop i s → e ≡ length (leading isText r) → e < length r → y ≡ parsed (leading isText r)
+    → fed (goingOn w) (drop i s) ≡ fed (judged w (w .account .requests + 1) y) (drop (i + e + 1) s)
+fed-judged w s r i e y q h k p =
+    let z : i + (e + 1) ≡ i + e + 1 = omega arith in
+    ap (fed (goingOn w)) (sym q)
+    ∙ fed-line (goingOn w) r e refl h k
+    ∙ ap (λ (v : Stage). fed v (drop (e + 1) r)) (ended-as (extended (goingOn w) (leading isText r)) y (read-parsed (leading isText r) ∙ sym p))
+    ∙ ap (fed (judged w (w .account .requests + 1) y)) (ap (drop (e + 1)) q ∙ drop-drop (e + 1) i s ∙ ap (λ (n : ℕ). drop n s) z)
+
+-- ---- from within a line on, whose newline, or the bytes' end, stands at place e
+
+-- the line is cut
+pub fed-more : (x : Stage) (s : List ℕ) (e : ℕ) (l : Line) → x .count .refusal ≡ noRefusal → Ends-at isText s 0 e → length s ≤ e → l ≡ withBytes (x .count .line) (take e s)
+    → record { count = record { line = l; account = x .count .account; refusal = noRefusal }; tables = x .tables } ≡ fed x s
+fed-more x s e l z h k p =
+    let all : take e s ≡ s = take-all e s k in
+    simp (p, all, sym z) (sym (fed-cut x s z (omega (arith, h, k, leading-short isText s))))
+
+-- it ends
+pub fed-ends : (x : Stage) (s : List ℕ) (e : ℕ) (l : Line) (y : Parsed) → x .count .refusal ≡ noRefusal → Ends-at isText s 0 e → e < length s → l ≡ withBytes (x .count .line) (take e s)
+    → y ≡ scanParsed (l .scan) → fed x s ≡ fed (judged (stateOf x) (lineNumber x) y) (drop (e + 1) s)
+fed-ends x s e l y z h k p q =
+    let n : e ≡ length (leading isText s) = omega (arith, h) in
+    let same : withBytes (x .count .line) (leading isText s) ≡ l = ap (withBytes (x .count .line)) (sym (take-leading isText s) ∙ ap (λ (m : ℕ). take m s) (sym n)) ∙ sym p in
+    fed-line x s e z n k
+    ∙ ap (λ (v : Stage). fed v (drop (e + 1) s)) (ended-as (extended x (leading isText s)) y (ap (λ (m : Line). scanParsed (m .scan)) same ∙ sym q))

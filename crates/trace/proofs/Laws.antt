@@ -1,7 +1,7 @@
 -- Small facts of a trace's lines: the setup, a line's request, and what a count needs to go on.
 use Prim.Native.Nat.{ℕ, _<_}
-use mathlib.Core.Path.{_≡_, refl, ap, _∙_}
-use mathlib.Core.Bool.{Bool, true, false}
+use mathlib.Core.Path.{_≡_, refl, sym, ap, _∙_}
+use mathlib.Core.Bool.{Bool, true, false, cond}
 use mathlib.Core.List.{List}
 use native.Mathlib.Omega.{arith}
 use lib.Dec.{leb, eqb}
@@ -18,7 +18,7 @@ use Rattle.protocol.specs.declared.Account.{Account}
 use Rattle.protocol.proofs.Laws.{choice, chosen-zero, at-zeros}
 use Rattle.trace_lines.proofs.Laws.{trace-fits}
 use Rattle.protocol.proofs.Lengths.{sized-fresh}
-use Rattle.din.specs.Automaton.{newLine, withBytes, scanParsed}
+use Rattle.din.specs.Automaton.{newLine, scanParsed}
 use Rattle.din.specs.declared.Line.{Line}
 use Rattle.din.specs.declared.Parsed.{Parsed}
 use Rattle.din.specs.declared.Parsed.the-variants.{Malformed, Labelled}
@@ -26,7 +26,7 @@ use Rattle.engine.specs.Usable.{Usable}
 use Rattle.protocol.proofs.Requests.{request-passed, bill-small}
 use Rattle.engine.proofs.Usable.{usable-served}
 use Rattle.trace_lines.specs.Trace.{traceSetup, requestAt, lineRefusal, after, afterLine, ended, endedOn}
-use Rattle.trace.specs.Counting.{Stage, freshCount, stateOf, lineNumber, goingOn, judged, lineEnded, stepped, extended, pieced, reported, closed, finished, Bounded, Little, Ready}
+use Rattle.trace.specs.Counting.{Stage, freshCount, stateOf, lineNumber, goingOn, refusedBy, judged, lineEnded, stepped, reported, closed, finished, Bounded, Little, Ready}
 use Rattle.trace.specs.declared.Count.{Count}
 use Rattle.trace_lines.specs.declared.Report.{Report}
 
@@ -84,7 +84,7 @@ unfolding afterLine
 ready-line w n Malformed x e = x
 ready-line w n (Labelled d a) x e = ready-after w n d a x e
 
-ready-judged : (w : State) (n : ℕ) (y : Parsed) → Ready (goingOn w) → Ready (judged w n y)
+pub ready-judged : (w : State) (n : ℕ) (y : Parsed) → Ready (goingOn w) → Ready (judged w n y)
 unfolding judged
 ready-judged w n y x =
     choice Ready (eqb (lineRefusal (w .account .requests) n y) noRefusal) (λ e. ready-line w n y x (eqb-true _ _ e))
@@ -99,12 +99,6 @@ unfolding stepped
 ready-stepped x b r =
     choice Ready (eqb (x .count .refusal) noRefusal)
     (λ e. choice Ready (eqb b 10) (λ e. ready-ended x r) (λ e. record { account = r .account; tables = r .tables })) (λ e. r)
-
-pub ready-pieced : (x : Stage) (l : List ℕ) (ends : Bool) → Ready x → Ready (pieced x l ends)
-unfolding pieced
-ready-pieced x l ends r =
-    choice Ready (eqb (x .count .refusal) noRefusal)
-    (λ e. choice Ready ends (λ e. ready-ended (extended x l) (record { account = r .account; tables = r .tables })) (λ e. record { account = r .account; tables = r .tables })) (λ e. r)
 
 -- ---- what each function returns
 
@@ -125,24 +119,21 @@ pub judged-taken : (w : State) (n d a : ℕ) (l : Line) → l ≡ newLine
 unfolding judged afterLine after
 judged-taken w n d a l p b q t r e = simp (p, q, r, e)
 
+-- a line that goes on
+taken-on : (c : Bool) (v w : State) (r : ℕ) → cond c (goingOn v) (refusedBy r w) .count .refusal ≡ noRefusal
+    → cond c (goingOn v) (refusedBy r w) ≡ goingOn (stateOf (cond c (goingOn v) (refusedBy r w)))
+taken-on true v w r e = refl
+taken-on false v w r e = ap (λ (n : ℕ). refusedBy n w) e
+
+pub judged-on : (w : State) (n : ℕ) (y : Parsed) (x : Stage) → x ≡ judged w n y → x .count .refusal ≡ noRefusal → judged w n y ≡ goingOn (stateOf x)
+unfolding judged
+judged-on w n y x e z =
+    taken-on (eqb (lineRefusal (w .account .requests) n y) noRefusal) (afterLine w n y) w (lineRefusal (w .account .requests) n y) (sym (ap (λ (v : Stage). v .count .refusal) e) ∙ z)
+    ∙ ap (λ (v : Stage). goingOn (stateOf v)) (sym e)
+
 pub ended-as : (x : Stage) (y : Parsed) → scanParsed (x .count .line .scan) ≡ y → lineEnded x ≡ judged (stateOf x) (lineNumber x) y
 unfolding lineEnded
 ended-as x y e = ap (judged (stateOf x) (lineNumber x)) e
-
--- a piece of a line: after a refusal, with its newline, and without
-pub pieced-refused : (x : Stage) (l : List ℕ) (ends : Bool) → (x .count .refusal ≡ noRefusal → ⊥) → x ≡ pieced x l ends
-unfolding pieced
-pieced-refused x l ends d = simp (ne-eqb _ _ d)
-
-pub pieced-ended : (x : Stage) (l : List ℕ) (ends : Bool) (y : Parsed) → x .count .refusal ≡ noRefusal → ends ≡ true → y ≡ scanParsed (withBytes (x .count .line) l .scan)
-    → judged (stateOf x) (lineNumber x) y ≡ pieced x l ends
-unfolding pieced lineEnded
-pieced-ended x l ends y e z p = simp (eq-eqb _ _ e, z, p)
-
-pub pieced-more : (x : Stage) (l : List ℕ) (ends : Bool) (m : Line) → x .count .refusal ≡ noRefusal → ends ≡ false → m ≡ withBytes (x .count .line) l
-    → record { count = record { line = m; account = x .count .account; refusal = x .count .refusal }; tables = x .tables } ≡ pieced x l ends
-unfolding pieced
-pieced-more x l ends m e z p = simp (eq-eqb _ _ e, z, p)
 
 -- the end of the input: after a refusal, between two lines, and within a line
 pub finished-refused : (x : Stage) (r : Report) → (x .count .refusal ≡ noRefusal → ⊥) → r ≡ reported (x .count) → record { report = r; tables = x .tables } ≡ finished x

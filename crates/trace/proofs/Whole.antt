@@ -1,23 +1,23 @@
 -- Fed with all the bytes of a trace, byte by byte, and finished: what the definition by lines reports.
-use Prim.Native.Nat.{ℕ, suc, _+_, _<_}
+use Prim.Native.Nat.{ℕ, suc, _+_}
 use mathlib.Core.Path.{_≡_, refl, sym, ap, _∙_}
 use mathlib.Core.Bool.{Bool, true, false, cond}
 use mathlib.Core.List.{List, [], _∷_, _++_}
 use native.Mathlib.Omega.{arith}
 use lib.Dec.{eqb}
 use borrow.Author.Tests.{eqb-true, ne-eqb}
-use Rattle.protocol.specs.Refusals.{noRefusal, malformedLine}
+use Rattle.protocol.specs.Refusals.{noRefusal}
 use Rattle.protocol.specs.Tables.{fresh}
 use Rattle.protocol.specs.Runs.{State}
 use Rattle.competitive.specs.Claims.{opening}
 use Rattle.protocol.specs.Accounts.{freshAccount}
 use Rattle.din.specs.Lines.{ahead, linesOf, parsed}
-use Rattle.din.specs.Automaton.{newLine, withByte, withBytes, scanParsed}
+use Rattle.din.specs.Automaton.{newLine, withBytes}
 use Rattle.din.specs.declared.Parsed.{Parsed}
 use Rattle.din.specs.declared.Parsed.the-variants.{Malformed, Labelled}
 use Rattle.din.proofs.Reading.{read-parsed, read-more, width-some}
-use Rattle.trace_lines.specs.Trace.{traceSetup, requestAt, lineRefusal, after, afterLine, Ended, stopped, traced, ended}
-use Rattle.trace.specs.Counting.{Stage, stateOf, freshCount, goingOn, refusedBy, judged, lineEnded, lengthened, stepped, fed, reported, closed, finished}
+use Rattle.trace_lines.specs.Trace.{traceSetup, lineRefusal, after, afterLine, stopped, traced, ended}
+use Rattle.trace.specs.Counting.{Stage, freshCount, withinLine, goingOn, refusedBy, judged, lineEnded, stepped, fed, reported, closed, finished}
 use Rattle.trace.proofs.Feeding.{refused-stays}
 
 -- ---- the bytes p of an unfinished line, in front of the lines of what follows
@@ -42,7 +42,7 @@ joined-none b (a ∷ p) = ap (ahead b) (joined-none a p)
 
 -- within a line, of which the bytes p have come
 abbrev within : List ℕ → State → Stage
-within p w = record { count = record { line = withBytes newLine p; account = w .account; refusal = noRefusal }; tables = w .tables }
+within p w = record { count = withinLine (w .account) p; tables = w .tables }
 
 -- the number of the next line
 abbrev next : State → ℕ

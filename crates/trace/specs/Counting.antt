@@ -1,9 +1,8 @@
 -- A trace counted byte by byte over lent tables. That this gives `ended` of the bytes is proved in proofs/Whole.antt.
 use Prim.Native.Nat.{ℕ, _+_, _*_, _≤_}
-use mathlib.Core.Path.{_≡_}
-use mathlib.Core.Bool.{Bool, cond}
+use mathlib.Core.Bool.{cond}
 use mathlib.Core.List.{List, [], _∷_}
-use lib.Dec.{ltb, eqb}
+use lib.Dec.{eqb}
 use Rattle.protocol.specs.Refusals.{noRefusal}
 use Rattle.protocol.specs.Tables.{Tables, tables}
 use Rattle.protocol.specs.Requests.{requestLimit}
@@ -12,7 +11,6 @@ use Rattle.protocol.specs.Runs.{State}
 use Rattle.protocol.specs.declared.Account.{Account}
 use Rattle.protocol.specs.declared.Bill.{Bill}
 use Rattle.din.specs.Automaton.{newLine, withByte, withBytes, scanParsed}
-use Rattle.din.specs.declared.Line.{Line}
 use Rattle.din.specs.declared.Parsed.{Parsed}
 use Rattle.engine.specs.Usable.{Usable}
 use Rattle.trace_lines.specs.Trace.{traceSetup, lineRefusal, afterLine, Ended}
@@ -41,6 +39,10 @@ lineNumber x = x .count .account .requests + 1
 -- before the first byte
 abbrev pub freshCount : Count
 freshCount = record { line = newLine; account = freshAccount; refusal = noRefusal }
+
+-- within a line, of which the bytes l have come, with no refusal
+abbrev pub withinLine : Account → List ℕ → Count
+withinLine a l = record { line = withBytes newLine l; account = a; refusal = noRefusal }
 
 -- ---- the end of a line
 
@@ -76,19 +78,6 @@ stepped x b = cond (eqb (x .count .refusal) noRefusal) (cond (eqb b 10) (lineEnd
 abbrev pub fed : Stage → List ℕ → Stage
 fed x [] = x
 fed x (b ∷ bs) = fed (stepped x b) bs
-
--- ---- a piece of a line
-
--- more bytes of the current line
-abbrev pub extended : Stage → List ℕ → Stage
-extended x l = record {
-  count = record { line = withBytes (x .count .line) l; account = x .count .account; refusal = x .count .refusal };
-  tables = x .tables;
-}
-
--- with the newline behind them, or not
-unfoldable pub pieced : Stage → List ℕ → Bool → Stage
-pieced x l ends = cond (eqb (x .count .refusal) noRefusal) (cond ends (lineEnded (extended x l)) (extended x l)) x
 
 -- ---- the end of the input
 

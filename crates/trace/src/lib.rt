@@ -8,12 +8,13 @@ use trace_lines::line_refusal;
 use trace_lines::request_at;
 use trace_lines::trace_setup;
 ghost use mathlib.Core.Path.{_≡_};
-ghost use Prim.Native.Nat.{_+_};
+ghost use Prim.Native.Nat.{_+_, _≤_};
+ghost use lib.ListN.{length, drop};
 ghost use Rattle.protocol.specs.Tables.{tables, fresh};
 ghost use Rattle.protocol.specs.Accounts.{entered};
 ghost use Rattle.engine.specs.Usable.{Usable};
 ghost use Rattle.trace_lines.specs.Trace.{traceSetup, ended, endedOn};
-ghost use Rattle.trace.specs.Counting.{stage, state, freshCount, judged, pieced, fed, reported, finished, Bounded, Little, Ready, reporting};
+ghost use Rattle.trace.specs.Counting.{stage, state, freshCount, withinLine, goingOn, judged, fed, reported, finished, Bounded, Little, Ready, reporting};
 
 // A trace so far: its current line, what the lines before came to, and the refusal that stopped it, or 0.
 pub struct Count {
@@ -33,6 +34,18 @@ fn enter(account: Account, bill: Bill) -> Account
         fetch: account.fetch + bill.fetch,
         write_back: account.write_back + bill.write_back,
         update: account.update + bill.update,
+    }
+}
+
+// A trace within a line, of which these bytes have come.
+fn within_line(account: Account, bytes: &[u8]) -> Count
+    ensures { λ r. ⌜ r ≡ withinLine account (now (bytes .entry)) ⌝ }
+{
+    let line = Line::new();
+    Count {
+        line: line.bytes(bytes),
+        account: account,
+        refusal: protocol::NO_REFUSAL,
     }
 }
 
@@ -113,38 +126,6 @@ fn judge(
     }
 }
 
-// More bytes of the current line, with the newline behind them or not. After a refusal nothing changes any more.
-fn take_piece(
-    count: Count,
-    piece: &[u8],
-    ends: bool,
-    blocks: &mut [u32],
-    counters: &mut [u32],
-    marks: &mut [u32],
-    words: &mut [u32],
-    memory: &mut [u32],
-) -> Count
-    requires { ⌜ Ready (stage count (now blocks) (now counters) (now marks) (now words) (now memory)) ⌝ }
-    ensures { λ r. ⌜ stage r (now (blocks .exit)) (now (counters .exit)) (now (marks .exit)) (now (words .exit)) (now (memory .exit))
-        ≡ pieced (stage count (now (blocks .entry)) (now (counters .entry)) (now (marks .entry)) (now (words .entry)) (now (memory .entry))) (now (piece .entry)) ends ⌝ }
-{
-    let stopped = count.refusal;
-    if stopped != protocol::NO_REFUSAL {
-        return count;
-    }
-    let line = count.line;
-    let account = count.account;
-    if ends {
-        let parsed = line.ended(piece);
-        return judge(account, parsed, blocks, counters, marks, words, memory);
-    }
-    Count {
-        line: line.bytes(piece),
-        account: account,
-        refusal: stopped,
-    }
-}
-
 impl Count {
     // A trace before its first byte.
     pub fn new() -> Self
@@ -183,7 +164,43 @@ impl Count {
     }
 }
 
-// More bytes of a trace.
+// More bytes of a trace, from the start of a line at `from` on. A line that lies whole there is parsed where it lies; of one that is cut the bytes are kept as a few numbers.
+fn feed_lines(
+    account: Account,
+    bytes: &[u8],
+    from: usize,
+    blocks: &mut [u32],
+    counters: &mut [u32],
+    marks: &mut [u32],
+    words: &mut [u32],
+    memory: &mut [u32],
+) -> Count
+    requires { ⌜ from ≤ length (now bytes) ⌝ }
+    requires { ⌜ Ready (goingOn (state account (now blocks) (now counters) (now marks) (now words) (now memory))) ⌝ }
+    ensures { λ r. ⌜ stage r (now (blocks .exit)) (now (counters .exit)) (now (marks .exit)) (now (words .exit)) (now (memory .exit))
+        ≡ fed (goingOn (state account (now (blocks .entry)) (now (counters .entry)) (now (marks .entry)) (now (words .entry)) (now (memory .entry)))) (drop from (now (bytes .entry))) ⌝ }
+{
+    let mut so_far = account;
+    let mut i = from;
+    while i < bytes.len() {
+        let rest = &bytes[i..];
+        let first = din::first_line(rest);
+        let end = first.end;
+        if end >= rest.len() {
+            break;
+        }
+        let parsed = first.parsed;
+        let next = judge(so_far, parsed, blocks, counters, marks, words, memory);
+        if next.refusal != protocol::NO_REFUSAL {
+            return next;
+        }
+        so_far = next.account;
+        i = i + end + 1;
+    }
+    within_line(so_far, &bytes[i..])
+}
+
+// More bytes of a trace: the rest of the current line, then the lines behind it.
 pub fn feed(
     count: Count,
     bytes: &[u8],
@@ -197,24 +214,42 @@ pub fn feed(
     ensures { λ r. ⌜ stage r (now (blocks .exit)) (now (counters .exit)) (now (marks .exit)) (now (words .exit)) (now (memory .exit))
         ≡ fed (stage count (now (blocks .entry)) (now (counters .entry)) (now (marks .entry)) (now (words .entry)) (now (memory .entry))) (now (bytes .entry)) ⌝ }
 {
-    let mut at = count;
-    let mut i = 0;
-    while i < bytes.len() {
-        let end = din::line_end(bytes, i);
-        let ends = end < bytes.len();
-        at = take_piece(
-            at,
-            &bytes[i..end],
-            ends,
-            blocks,
-            counters,
-            marks,
-            words,
-            memory,
-        );
-        i = din::next_line(bytes, end);
+    if count.refusal != protocol::NO_REFUSAL {
+        return count;
     }
-    at
+    let account = count.account;
+    let before = count.line;
+    let end = din::line_end(bytes, 0);
+    let line = before.bytes(&bytes[..end]);
+    if end >= bytes.len() {
+        return Count {
+            line: line,
+            account: account,
+            refusal: protocol::NO_REFUSAL,
+        };
+    }
+    let next = judge(
+        account,
+        line.parsed(),
+        blocks,
+        counters,
+        marks,
+        words,
+        memory,
+    );
+    if next.refusal != protocol::NO_REFUSAL {
+        return next;
+    }
+    feed_lines(
+        next.account,
+        bytes,
+        end + 1,
+        blocks,
+        counters,
+        marks,
+        words,
+        memory,
+    )
 }
 
 // The end of the input: a last line may lack its newline.

@@ -1,6 +1,6 @@
 -- A trace's totals are those of one run of its requests from fresh tables, so what is claimed of lists of runs covers every report.
 use Prim.Native.Nat.{ℕ, suc, _+_, _*_, _≤_}
-use mathlib.Core.Path.{_≡_, refl, sym, ap, _∙_}
+use mathlib.Core.Path.{_≡_, refl, ap}
 use mathlib.Core.Bool.{Bool, true, false, cond}
 use mathlib.Core.List.{List, [], _∷_, _++_}
 use native.Mathlib.Omega.{arith}
@@ -10,12 +10,12 @@ use borrow.Author.Tests.{eq-eqb}
 use Rattle.protocol.specs.Lists.{tail}
 use Rattle.protocol.specs.Refusals.{noRefusal}
 use Rattle.protocol.specs.Board.{inRange, fetchPrice, writeBackPrice, slots, lineOf, wordIndex}
-use Rattle.protocol.specs.Tables.{Tables, fresh}
+use Rattle.protocol.specs.Tables.{fresh}
 use Rattle.protocol.specs.Soundness.{emptyLine, soundLine, sound}
-use Rattle.protocol.specs.Requests.{served, value, bill, requestRefusal}
-use Rattle.protocol.specs.Accounts.{entered, freshAccount, cycles, cyclesOf, possible}
+use Rattle.protocol.specs.Requests.{requestRefusal}
+use Rattle.protocol.specs.Accounts.{freshAccount, cycles, cyclesOf, possible}
 use Rattle.protocol.specs.Runs.{Outcome, walk, run, runRefusal, Run, State, runs, takenAll, spent}
-use Rattle.competitive.specs.Claims.{opening, Claim, Demand3, Demands}
+use Rattle.competitive.specs.Claims.{opening, Claim}
 use Rattle.competitive.proofs.Demands.{demands}
 use Rattle.protocol.specs.Rival.{noCopies, Legal, costs}
 use Rattle.protocol.specs.declared.Request.{Request}

@@ -3,19 +3,19 @@ use mathlib.Core.Path.{_≡_, refl, sym, ap, _∙_}
 use native.Mathlib.Omega.{arith}
 use lib.ListN.{length, drop}
 use borrow.Author.Needs.{needs}
-use Rattle.din.specs.Lines.{hexValue, isHex, leading}
+use Rattle.din.specs.Lines.{isHex, leading}
 use Rattle.din.specs.Automaton.{shifted, shiftedAll}
 use Rattle.din.proofs.Leading.{leads, leads-not, leads-end, is-hex, not-hex}
 use Rattle.din.proofs.address_at.Statement.{statement}
 use Rattle.din.proofs.address_at.Tie as tie
 
 abbrev Inv-loop : tie.InvT-loop
-Inv-loop line from i₀ number₀ i number =
-    (i ≤ length line) × (from + length (leading isHex (drop from line)) ≡ i + length (leading isHex (drop i line)))
-    × (shiftedAll 0 (leading isHex (drop from line)) ≡ shiftedAll number (leading isHex (drop i line)))
+Inv-loop bytes from i₀ number₀ i number =
+    (i ≤ length bytes) × (from + length (leading isHex (drop from bytes)) ≡ i + length (leading isHex (drop i bytes)))
+    × (shiftedAll 0 (leading isHex (drop from bytes)) ≡ shiftedAll number (leading isHex (drop i bytes)))
 
 abbrev μ-loop : tie.MeasureT-loop
-μ-loop line from i₀ number₀ i number = length line - i
+μ-loop bytes from i₀ number₀ i number = length bytes - i
 
 loop-holds : tie.Need-loop-holds Inv-loop μ-loop
 loop-holds c = (search needs, refl, refl)
@@ -38,19 +38,19 @@ loop-less c = search needs
 loop-again : tie.Need-loop-again Inv-loop μ-loop
 loop-again c =
     let x = c .before .before .before .before .before .loop in
-    let more = leads isHex (c .before .before .before .before .before .before .before .args .line .now) (x .i) (c .before .before .before .before .loop-test .taken) (is-hex _ _ (c .before .before .hex-value .ensures) (c .before .if1 .left)) in
-    (search needs, omega (arith, x .inv .1, ap length more), x .inv .2 ∙ ap (shiftedAll (x .number)) more ∙ ap (λ (v : ℕ). shiftedAll v (leading isHex (drop (x .i + 1) (c .before .before .before .before .before .before .before .args .line .now)))) (sym (c .shift .ensures ∙ ap (shifted (x .number)) (c .before .before .hex-value .ensures))))
+    let more = leads isHex (c .before .before .before .before .before .before .before .args .bytes .now) (x .i) (c .before .before .before .before .loop-test .taken) (is-hex _ _ (c .before .before .hex-value .ensures) (c .before .if1 .left)) in
+    (search needs, omega (arith, x .inv .1, ap length more), x .inv .2 ∙ ap (shiftedAll (x .number)) more ∙ ap (λ (v : ℕ). shiftedAll v (leading isHex (drop (x .i + 1) (c .before .before .before .before .before .before .before .args .bytes .now)))) (sym (c .shift .ensures ∙ ap (shifted (x .number)) (c .before .before .hex-value .ensures))))
 
 returns : tie.Need-returns Inv-loop μ-loop
 returns c =
     let x = c .before .loop in
-    let none = leads-end isHex (c .before .before .before .args .line .now) (x .i) (omega arith) in
+    let none = leads-end isHex (c .before .before .before .args .bytes .now) (x .i) (omega arith) in
     (omega (arith, x .inv .1, ap length none), sym (x .inv .2 ∙ ap (shiftedAll (x .number)) none))
 
 returns-2 : tie.Need-returns-2 Inv-loop μ-loop
 returns-2 c =
     let x = c .before .before .before .before .loop in
-    let none = leads-not isHex (c .before .before .before .before .before .before .args .line .now) (x .i) (c .before .before .before .loop-test .taken) (not-hex _ _ (c .before .hex-value .ensures) (c .if1 .taken)) in
+    let none = leads-not isHex (c .before .before .before .before .before .before .args .bytes .now) (x .i) (c .before .before .before .loop-test .taken) (not-hex _ _ (c .before .hex-value .ensures) (c .if1 .taken)) in
     (omega (arith, x .inv .1, ap length none), sym (x .inv .2 ∙ ap (shiftedAll (x .number)) none))
 
 pub address-at-spec : {M : Type 1} → statement M

@@ -10,10 +10,10 @@ use Rattle.din.proofs.blanks_end.Statement.{statement}
 use Rattle.din.proofs.blanks_end.Tie as tie
 
 abbrev Inv-loop : tie.InvT-loop
-Inv-loop line from i₀ i = (i ≤ length line) × (from + length (leading isBlank (drop from line)) ≡ i + length (leading isBlank (drop i line)))
+Inv-loop bytes from i₀ i = (i ≤ length bytes) × (from + length (leading isBlank (drop from bytes)) ≡ i + length (leading isBlank (drop i bytes)))
 
 abbrev μ-loop : tie.MeasureT-loop
-μ-loop line from i₀ i = length line - i
+μ-loop bytes from i₀ i = length bytes - i
 
 loop-holds : tie.Need-loop-holds Inv-loop μ-loop
 loop-holds c = (search needs, refl)
@@ -31,13 +31,13 @@ loop-less : tie.Need-loop-less Inv-loop μ-loop
 loop-less c = search needs
 
 loop-again : tie.Need-loop-again Inv-loop μ-loop
-loop-again c = (search needs, omega (arith, c .before .before .before .before .loop .inv .1, ap length (leads isBlank (c .before .before .before .before .before .before .args .line .now) (c .before .before .before .before .loop .i) (c .before .before .before .loop-test .taken) (sym (c .before .is-blank .ensures) ∙ not-false _ (c .if1 .left)))))
+loop-again c = (search needs, omega (arith, c .before .before .before .before .loop .inv .1, ap length (leads isBlank (c .before .before .before .before .before .before .args .bytes .now) (c .before .before .before .before .loop .i) (c .before .before .before .loop-test .taken) (sym (c .before .is-blank .ensures) ∙ not-false _ (c .if1 .left)))))
 
 returns : tie.Need-returns Inv-loop μ-loop
-returns c = omega (arith, c .before .loop .inv .1, ap length (leads-end isBlank (c .before .before .before .args .line .now) (c .before .loop .i) (omega arith)))
+returns c = omega (arith, c .before .loop .inv .1, ap length (leads-end isBlank (c .before .before .before .args .bytes .now) (c .before .loop .i) (omega arith)))
 
 returns-2 : tie.Need-returns-2 Inv-loop μ-loop
-returns-2 c = omega (arith, c .before .before .before .before .loop .inv .1, ap length (leads-not isBlank (c .before .before .before .before .before .before .args .line .now) (c .before .before .before .before .loop .i) (c .before .before .before .loop-test .taken) (sym (c .before .is-blank .ensures) ∙ not-true _ (c .if1 .taken))))
+returns-2 c = omega (arith, c .before .before .before .before .loop .inv .1, ap length (leads-not isBlank (c .before .before .before .before .before .before .args .bytes .now) (c .before .before .before .before .loop .i) (c .before .before .before .loop-test .taken) (sym (c .before .is-blank .ensures) ∙ not-true _ (c .if1 .taken))))
 
 pub blanks-end-spec : {M : Type 1} → statement M
 blanks-end-spec =

@@ -1,6 +1,5 @@
 use Rattle.din.specs.Lines.{isDigit}
 use borrow.Author.Tests.{lt-ltb, le-ltb}
-use borrow.Author.Needs.{needs}
 use Rattle.din.proofs.is_digit.Statement.{statement}
 use Rattle.din.proofs.is_digit.Tie as tie
 

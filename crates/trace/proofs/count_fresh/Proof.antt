@@ -1,4 +1,4 @@
-use mathlib.Core.Path.{_≡_, sym, ap, _∙_, subst}
+use mathlib.Core.Path.{sym, ap, _∙_, subst}
 use Rattle.trace.specs.Counting.{Stage, fed, finished, Ready}
 use Rattle.trace.proofs.Laws.{ready-fresh, fresh-stage}
 use Rattle.trace.proofs.Feeding.{ready-fed}

@@ -1,4 +1,4 @@
-use mathlib.Core.Path.{_≡_, sym, _∙_}
+use mathlib.Core.Path.{sym, _∙_}
 use Rattle.trace.proofs.Laws.{not-started, now-started, ended-started}
 use borrow.Author.Needs.{needs}
 use Rattle.trace.proofs.count_trace.Statement.{statement}

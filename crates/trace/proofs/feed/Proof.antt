@@ -1,93 +1,130 @@
-use Prim.Native.Nat.{_≤_, _<_, _+_, _-_}
-use mathlib.Core.Bool.{Bool, true, false, cond}
-use mathlib.Core.Path.{_≡_, refl, sym, _∙_, subst}
+use Prim.Native.Nat.{_+_, _≤_}
+use mathlib.Core.Path.{sym, ap, _∙_, subst}
 use native.Mathlib.Omega.{arith}
 use lib.ListN.{length, drop}
-use lib.Dec.{ltb}
+use lib.Seq.{length-take-le}
 use borrow.Author.Needs.{needs}
+use borrow.Author.Tests.{ne-eqb}
 use Rattle.din.specs.Lines.{isText}
-use Rattle.din.proofs.Leading.{leading-within}
-use Rattle.trace.specs.Counting.{stage, fed, Ready}
-use Rattle.trace.proofs.Laws.{ready-pieced}
-use Rattle.trace.proofs.Feeding.{fed-piece, fed-end, next-within, next-later}
+use Rattle.din.proofs.Leading.{leading-short}
+use Rattle.trace.specs.Counting.{Stage, fed, Ready}
+use Rattle.trace.proofs.Laws.{ready-judged, judged-on}
+use Rattle.trace.proofs.Feeding.{refused-stays, fed-more, fed-ends}
 use Rattle.trace.proofs.feed.Statement.{statement}
 use Rattle.trace.proofs.feed.Tie as tie
 
--- what is left to feed from here gives the whole
-abbrev Inv-loop : tie.InvT-loop
-Inv-loop bytes blocks₀ counters₀ marks₀ words₀ memory₀ at₀ i₀ blocks counters marks words memory at i =
-    (i ≤ length bytes) × Ready (stage at blocks counters marks words memory) × (length blocks ≡ length blocks₀) × (length counters ≡ length counters₀)
-    × (length marks ≡ length marks₀) × (length words ≡ length words₀) × (length memory ≡ length memory₀)
-    × (fed (stage at₀ blocks₀ counters₀ marks₀ words₀ memory₀) bytes ≡ fed (stage at blocks counters marks words memory) (drop i bytes))
+returns : tie.Need-returns
+returns c = sym (refused-stays _ (c .before .before .before .before .before .before .before .before .args .bytes .now) (ne-eqb _ _ (c .if1 .taken)))
 
-abbrev μ-loop : tie.MeasureT-loop
-μ-loop bytes blocks₀ counters₀ marks₀ words₀ memory₀ at₀ i₀ blocks counters marks words memory at i = length bytes - i
+line-end-requires : tie.Need-line-end-requires
+line-end-requires c κs = search needs
 
-loop-holds : tie.Need-loop-holds Inv-loop μ-loop
-loop-holds c = (search needs, c .before .before .before .before .before .before .pre, refl, refl, refl, refl, refl, refl)
+slice-aggregate-bytes : tie.Need-slice-aggregate-bytes
+slice-aggregate-bytes c =
+    let s = c .before .before .before .before .before .before .before .before .before .before .before .before .args .bytes .now in
+    let e = c .before .line-end in
+    sym (length-take-le (e .result) s (omega (arith, e .ensures, leading-short isText s)))
 
-line-end-requires : tie.Need-line-end-requires Inv-loop μ-loop
-line-end-requires c κs = c .before .loop .inv .0
+bytes-requires : tie.Need-bytes-requires
+bytes-requires c κs = search needs
 
-sub-take-piece : tie.Need-sub-take-piece Inv-loop μ-loop
-sub-take-piece c = omega (arith, c .line-end .ensures)
+returns-2 : tie.Need-returns-2
+returns-2 c =
+    let w = c .before .before .before in
+    let s = w .before .before .before .before .before .before .before .before .before .before .before .args .bytes .now in
+    let z = w .before .before .before .if1 .left in
+    fed-more _ s _ _ z (w .line-end .ensures) (c .if2 .taken) (c .before .bytes .ensures)
 
-part-take-piece-start : tie.Need-part-take-piece-start Inv-loop μ-loop
-part-take-piece-start c = omega (arith, c .line-end .ensures)
+parsed-requires : tie.Need-parsed-requires
+parsed-requires c κs = search needs
 
-part-take-piece-end : tie.Need-part-take-piece-end Inv-loop μ-loop
-part-take-piece-end c = omega (arith, c .line-end .ensures, leading-within isText (c .before .before .before .before .before .before .before .before .before .args .bytes .now) (c .before .before .loop .i) (c .before .before .loop .inv .0))
+judge-requires : tie.Need-judge-requires
+judge-requires c κs =
+    let ready = c .before .before .before .before .before .before .before .before .before .before .before .before .before .before .before .before .before .before .before .before .pre in
+    (ready .account, ready .tables)
 
-take-piece-requires : tie.Need-take-piece-requires Inv-loop μ-loop
-take-piece-requires c κs = c .before .before .before .before .before .before .before .before .loop .inv .1
+same-length : tie.Need-same-length
+same-length c = c .before .before .before .before .before .before .before .before .before .before .before .blocks2 .given
 
-next-line-requires : tie.Need-next-line-requires Inv-loop μ-loop
-next-line-requires c κs = omega (arith, c .before .before .before .before .before .before .before .before .before .before .before .before .before .before .before .before .before .line-end .ensures, leading-within isText (c .before .before .before .before .before .before .before .before .before .before .before .before .before .before .before .before .before .before .before .before .before .before .before .before .before .before .args .bytes .now) (c .before .before .before .before .before .before .before .before .before .before .before .before .before .before .before .before .before .before .before .loop .i) (c .before .before .before .before .before .before .before .before .before .before .before .before .before .before .before .before .before .before .before .loop .inv .0))
+same-length-2 : tie.Need-same-length-2
+same-length-2 c = c .before .before .before .before .before .before .before .before .before .counters .given
 
-loop-less : tie.Need-loop-less Inv-loop μ-loop
-loop-less c =
-    let later = next-later (c .before .before .before .before .before .before .before .before .before .before .before .before .before .before .before .before .before .before .before .before .loop .i) (c .before .before .before .before .before .before .before .before .before .before .before .before .before .before .before .before .before .before .line-end .result) (length (c .before .before .before .before .before .before .before .before .before .before .before .before .before .before .before .before .before .before .before .before .before .before .before .before .before .before .before .args .bytes .now)) (c .next-line .result) (omega (arith, c .before .before .before .before .before .before .before .before .before .before .before .before .before .before .before .before .before .before .line-end .ensures)) (c .before .before .before .before .before .before .before .before .before .before .before .before .before .before .before .before .before .before .before .loop-test .taken) (c .next-line .ensures) in
-    omega (arith, later, c .before .before .before .before .before .before .before .before .before .before .before .before .before .before .before .before .before .before .before .loop-test .taken)
+same-length-3 : tie.Need-same-length-3
+same-length-3 c = c .before .before .before .before .before .before .before .marks .given
 
-loop-again : tie.Need-loop-again Inv-loop μ-loop
-loop-again c = (next-within (c .before .before .before .before .before .before .before .before .before .before .before .before .before .before .before .before .before .before .line-end .result) (length (c .before .before .before .before .before .before .before .before .before .before .before .before .before .before .before .before .before .before .before .before .before .before .before .before .before .before .before .args .bytes .now)) (c .next-line .result) (omega (arith, c .before .before .before .before .before .before .before .before .before .before .before .before .before .before .before .before .before .before .line-end .ensures, leading-within isText (c .before .before .before .before .before .before .before .before .before .before .before .before .before .before .before .before .before .before .before .before .before .before .before .before .before .before .before .args .bytes .now) (c .before .before .before .before .before .before .before .before .before .before .before .before .before .before .before .before .before .before .before .before .loop .i) (c .before .before .before .before .before .before .before .before .before .before .before .before .before .before .before .before .before .before .before .before .loop .inv .0))) (c .next-line .ensures), subst Ready (sym (c .before .before .before .before .before .before .before .before .before .before .before .take-piece .ensures)) (ready-pieced _ _ _ (c .before .before .before .before .before .before .before .before .before .before .before .before .before .before .before .before .before .before .before .before .loop .inv .1)), search needs, search needs, search needs, search needs, search needs, rw (c .before .before .before .before .before .before .before .before .before .before .before .take-piece .ensures, c .next-line .ensures) (c .before .before .before .before .before .before .before .before .before .before .before .before .before .before .before .before .before .before .before .before .loop .inv .7 ∙ fed-piece _ _ _ _ (c .before .before .before .before .before .before .before .before .before .before .before .before .before .before .before .before .before .before .line-end .ensures)))
+same-length-4 : tie.Need-same-length-4
+same-length-4 c = c .before .before .before .before .before .words .given
 
-same-length : tie.Need-same-length Inv-loop μ-loop
-same-length c = search needs
+same-length-5 : tie.Need-same-length-5
+same-length-5 c = c .before .before .before .memory .given
 
-same-length-2 : tie.Need-same-length-2 Inv-loop μ-loop
-same-length-2 c = search needs
+returns-3 : tie.Need-returns-3
+returns-3 c =
+    let w = c .before .before .before .before .before .before .before .before .before .before .before .before .before .before .before .before .before .before .before .before .before .before in
+    let s = w .before .before .before .before .before .before .before .before .before .before .before .args .bytes .now in
+    let z = w .before .before .before .if1 .left in
+    sym
+    (fed-ends _ s (w .line-end .result) _ _ z (w .line-end .ensures) (c .before .before .before .before .before .before .before .before .before .before .before .before .before .before .before .before .before .before .before .if2 .left) (c .before .before .before .before .before .before .before .before .before .before .before .before .before .before .before .before .before .before .before .before .bytes .ensures) (c .before .before .before .before .before .before .before .before .before .before .before .before .before .before .before .before .before .before .parsed .ensures)
+    ∙ ap (λ (x : Stage). fed x (drop (w .line-end .result + 1) s)) (sym (c .before .before .before .before .before .before .before .before .before .before .before .before .judge .ensures))
+    ∙ refused-stays _ (drop (w .line-end .result + 1) s) (ne-eqb _ _ (c .if3 .taken)))
 
-same-length-3 : tie.Need-same-length-3 Inv-loop μ-loop
-same-length-3 c = search needs
+add-feed-lines : tie.Need-add-feed-lines
+add-feed-lines c =
+    let w = c .before .before .before .before .before .before .before .before .before .before .before .before .before .before .before .before .before .before .before .before .before .before in
+    let s = w .before .before .before .before .before .before .before .before .before .before .before .args .bytes .now in
+    let h : w .line-end .result + 1 ≤ length s = omega (arith, c .before .before .before .before .before .before .before .before .before .before .before .before .before .before .before .before .before .before .before .if2 .left) in
+    search (needs, h)
 
-same-length-4 : tie.Need-same-length-4 Inv-loop μ-loop
-same-length-4 c = search needs
+feed-lines-requires : tie.Need-feed-lines-requires
+feed-lines-requires c κs =
+    let ready = c .before .before .before .before .before .before .before .before .before .before .before .before .before .before .before .before .before .before .before .before .before .before .before .before .before .before .before .before .before .before .before .before .before .before .before .before .before .before .pre in
+    (omega (arith, c .before .before .before .before .before .before .before .before .before .before .before .before .before .before .before .before .before .before .before .before .before .before .before .before .if2 .left), subst Ready (judged-on _ _ _ _ (c .before .before .before .before .before .before .before .before .before .before .before .before .before .before .before .before .before .judge .ensures) (c .before .before .before .before .before .if3 .left)) (ready-judged _ _ _ (record { account = ready .account; tables = ready .tables })))
 
-same-length-5 : tie.Need-same-length-5 Inv-loop μ-loop
-same-length-5 c = search needs
+same-length-6 : tie.Need-same-length-6
+same-length-6 c = c .before .before .before .before .before .before .before .before .before .blocks3 .given ∙ c .before .before .before .before .before .before .before .before .before .before .before .before .before .before .before .before .before .before .before .before .before .before .before .before .before .before .before .blocks2 .given
 
-returns : tie.Need-returns Inv-loop μ-loop
-returns c = sym (c .before .loop .inv .7 ∙ fed-end (stage (c .before .loop .at) (c .before .loop .blocks) (c .before .loop .counters) (c .before .loop .marks) (c .before .loop .words) (c .before .loop .memory)) (c .before .before .before .before .before .before .before .before .args .bytes .now) (c .before .loop .i) (omega arith))
+same-length-7 : tie.Need-same-length-7
+same-length-7 c = c .before .before .before .before .before .before .before .counters2 .given ∙ c .before .before .before .before .before .before .before .before .before .before .before .before .before .before .before .before .before .before .before .before .before .before .before .before .before .counters .given
+
+same-length-8 : tie.Need-same-length-8
+same-length-8 c = c .before .before .before .before .before .marks2 .given ∙ c .before .before .before .before .before .before .before .before .before .before .before .before .before .before .before .before .before .before .before .before .before .before .before .marks .given
+
+same-length-9 : tie.Need-same-length-9
+same-length-9 c = c .before .before .before .words2 .given ∙ c .before .before .before .before .before .before .before .before .before .before .before .before .before .before .before .before .before .before .before .before .before .words .given
+
+same-length-10 : tie.Need-same-length-10
+same-length-10 c = c .before .memory2 .given ∙ c .before .before .before .before .before .before .before .before .before .before .before .before .before .before .before .before .before .before .before .memory .given
+
+returns-4 : tie.Need-returns-4
+returns-4 c =
+    let w = c .before .before .before .before .before .before .before .before .before .before .before .before .before .before .before .before .before .before .before .before .before .before .before .before .before .before .before .before .before .before .before .before .before .before .before .before .before .before in
+    let s = w .before .before .before .before .before .before .before .before .before .before .before .args .bytes .now in
+    let z = w .before .before .before .if1 .left in
+    let on = judged-on _ _ _ _ (c .before .before .before .before .before .before .before .before .before .before .before .before .before .before .before .before .before .before .before .before .before .before .before .before .before .before .before .before .judge .ensures) (c .before .before .before .before .before .before .before .before .before .before .before .before .before .before .before .before .if3 .left) in
+    c .before .before .before .before .before .before .before .before .before .before .feed-lines .ensures ∙ sym (fed-ends _ s (w .line-end .result) _ _ z (w .line-end .ensures) (c .before .before .before .before .before .before .before .before .before .before .before .before .before .before .before .before .before .before .before .before .before .before .before .before .before .before .before .before .before .before .before .before .before .before .before .if2 .left) (c .before .before .before .before .before .before .before .before .before .before .before .before .before .before .before .before .before .before .before .before .before .before .before .before .before .before .before .before .before .before .before .before .before .before .before .before .bytes .ensures) (c .before .before .before .before .before .before .before .before .before .before .before .before .before .before .before .before .before .before .before .before .before .before .before .before .before .before .before .before .before .before .before .before .before .before .parsed .ensures) ∙ ap (λ (x : Stage). fed x (drop (w .line-end .result + 1) s)) on)
 
 pub feed-spec : {M : Type 1} → statement M
 feed-spec =
     tie.close
     (tie.spec
-    Inv-loop
-    μ-loop
-    loop-holds
+    returns
     line-end-requires
-    sub-take-piece
-    part-take-piece-start
-    part-take-piece-end
-    take-piece-requires
-    next-line-requires
-    loop-less
-    loop-again
+    slice-aggregate-bytes
+    bytes-requires
+    returns-2
+    parsed-requires
+    judge-requires
     same-length
     same-length-2
     same-length-3
     same-length-4
     same-length-5
-    returns)
+    returns-3
+    add-feed-lines
+    feed-lines-requires
+    same-length-6
+    same-length-7
+    same-length-8
+    same-length-9
+    same-length-10
+    returns-4)

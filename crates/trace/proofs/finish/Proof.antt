@@ -1,4 +1,4 @@
-use mathlib.Core.Path.{_≡_, sym, subst, _∙_}
+use mathlib.Core.Path.{sym, subst, _∙_}
 use Rattle.trace.specs.Counting.{Stage, Bounded}
 use Rattle.trace.proofs.Laws.{ready-ended, ended-as, finished-refused, finished-between, finished-within}
 use native.Mathlib.Omega.{arith}

@@ -1,10 +1,6 @@
 use Prim.Native.Nat.{_+_}
-use mathlib.Core.Path.{_≡_, sym, ap, _∙_}
-use Rattle.protocol.specs.Tables.{tables}
-use Rattle.protocol.specs.Requests.{bill}
+use mathlib.Core.Path.{sym, ap, _∙_}
 use Rattle.protocol.specs.Accounts.{entered}
-use Rattle.trace_lines.specs.Trace.{traceSetup, requestAt}
-use Rattle.trace.specs.Counting.{state}
 use Rattle.trace_lines.proofs.Laws.{trace-fits}
 use Rattle.trace.proofs.Laws.{taken, bill-little, judged-refused, judged-taken}
 use borrow.Author.Needs.{needs}
@@ -31,9 +27,8 @@ trace-setup-requires c κs = search needs
 
 serve-requires : tie.Need-serve-requires
 serve-requires c κs = let a = c .before .before .before .before .before .before .before .before .before .before .before .before .before .before .args in
-    let n = a .account .requests + 1 in
     rw (c .before .before .before .before .before .trace-setup .ensures, c .before .before .before .before .before .before .request-at .ensures)
-    (trace-fits, (taken (a .account .requests) n (a .label) (a .address) (sym (c .before .before .before .before .before .before .before .before .line-refusal .ensures n) ∙ c .before .before .before .before .before .before .before .if1 .left) .valid, c .before .before .before .before .before .before .before .before .before .before .before .before .before .before .pre .1))
+    (trace-fits, (taken (a .account .requests) _ (a .label) (a .address) (sym (c .before .before .before .before .before .before .before .before .line-refusal .ensures _) ∙ c .before .before .before .before .before .before .before .if1 .left) .valid, c .before .before .before .before .before .before .before .before .before .before .before .before .before .before .pre .1))
 
 new-requires-2 : tie.Need-new-requires-2
 new-requires-2 c κs = search needs

@@ -1,4 +1,5 @@
-use mathlib.Core.Path.{_≡_, sym, _∙_}
+use mathlib.Core.Path.{_∙_}
+use native.Mathlib.Omega.{arith}
 use borrow.Author.Tests.{le-leb, lt-leb}
 use Rattle.trace_lines.specs.Trace.{lineRefusal}
 use Rattle.trace_lines.proofs.Laws.{number-free, trace-fits}
@@ -8,7 +9,7 @@ use Rattle.trace_lines.proofs.line_refusal.Tie as tie
 
 returns : tie.Need-returns
 unfolding lineRefusal
-returns c = λ n. simp (lt-leb _ _ (c .if1 .taken))
+returns c = λ n. simp (lt-leb (c .before .args .label) 2 (omega (arith, c .if1 .taken)))
 
 trace-setup-requires : tie.Need-trace-setup-requires
 trace-setup-requires c κs = search needs
@@ -23,7 +24,7 @@ returns-2 : tie.Need-returns-2
 unfolding lineRefusal
 returns-2 c = λ n.
     let a = c .before .before .before .before .args in
-    simp (le-leb _ _ (c .before .before .before .if1 .left))
+    simp (le-leb (a .label) 2 (omega (arith, c .before .before .before .if1 .left)))
     (c .request-refusal .ensures ∙ rw (c .before .before .trace-setup .ensures, c .before .request-at .ensures) (number-free (a .requests) 0 n (a .label) (a .address)))
 
 pub line-refusal-spec : {M : Type 1} → statement M

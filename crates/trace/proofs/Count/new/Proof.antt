@@ -1,4 +1,3 @@
-use Rattle.trace.specs.Counting.{freshCount}
 use borrow.Author.Needs.{needs}
 use Rattle.trace.proofs.Count.new.Statement.{statement}
 use Rattle.trace.proofs.Count.new.Tie as tie

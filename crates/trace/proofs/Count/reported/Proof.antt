@@ -1,4 +1,4 @@
-use borrow.Author.Tests.{eq-eqb, ne-eqb}
+use borrow.Author.Tests.{ne-eqb}
 use Rattle.trace.specs.Counting.{reported}
 use borrow.Author.Needs.{needs}
 use Rattle.trace.proofs.Count.reported.Statement.{statement}
