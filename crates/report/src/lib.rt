@@ -3,7 +3,7 @@ ghost use mathlib.Core.Path.{_≡_};
 ghost use Rattle.protocol.specs.Tables.{tables, fresh};
 ghost use Rattle.trace_lines.specs.Trace.{traceSetup};
 ghost use Rattle.trace.specs.Counting.{stage, Ready};
-ghost use Rattle.report.specs.Reading.{Took, Reached, Reported};
+ghost use Rattle.report.specs.Reading.{readOf, reading, afterRead, Took, Reached, Reported};
 use libc::STDERR_FILENO;
 use libc::STDIN_FILENO;
 use libc::STDOUT_FILENO;
@@ -17,10 +17,11 @@ struct Progress {
     count: Count,
 }
 
-// Reads once, and counts what came. Reading stops at the end of the input, at an error and after a refusal.
-fn read_some(
+// Counts what a read brought. Reading stops at the end of the input, at an error and after a refusal.
+fn count_read(
+    got: isize,
     count: Count,
-    buffer: &mut [u8],
+    buffer: &[u8],
     blocks: &mut [u32],
     counters: &mut [u32],
     marks: &mut [u32],
@@ -28,10 +29,9 @@ fn read_some(
     memory: &mut [u32],
 ) -> Progress
     requires { ⌜ Ready (stage count (now blocks) (now counters) (now marks) (now words) (now memory)) ⌝ }
-    ensures { λ r. ⌜ Took (stage count (now (blocks .entry)) (now (counters .entry)) (now (marks .entry)) (now (words .entry)) (now (memory .entry))) (now (buffer .exit))
-        (stage (r .count) (now (blocks .exit)) (now (counters .exit)) (now (marks .exit)) (now (words .exit)) (now (memory .exit))) ⌝ }
+    ensures { λ r. ⌜ reading r (now (blocks .exit)) (now (counters .exit)) (now (marks .exit)) (now (words .exit)) (now (memory .exit))
+        ≡ afterRead (stage count (now (blocks .entry)) (now (counters .entry)) (now (marks .entry)) (now (words .entry)) (now (memory .entry))) (readOf got (now (buffer .entry))) ⌝ }
 {
-    let got = libc::read(STDIN_FILENO, buffer);
     if got <= 0 {
         return Progress {
             going: false,
@@ -49,6 +49,24 @@ fn read_some(
     }
 }
 
+// Reads once.
+fn read_some(
+    count: Count,
+    buffer: &mut [u8],
+    blocks: &mut [u32],
+    counters: &mut [u32],
+    marks: &mut [u32],
+    words: &mut [u32],
+    memory: &mut [u32],
+) -> Progress
+    requires { ⌜ Ready (stage count (now blocks) (now counters) (now marks) (now words) (now memory)) ⌝ }
+    ensures { λ r. ⌜ Took (stage count (now (blocks .entry)) (now (counters .entry)) (now (marks .entry)) (now (words .entry)) (now (memory .entry))) (now (buffer .exit))
+        (reading r (now (blocks .exit)) (now (counters .exit)) (now (marks .exit)) (now (words .exit)) (now (memory .exit))) ⌝ }
+{
+    let got = libc::read(STDIN_FILENO, buffer);
+    count_read(got, count, &*buffer, blocks, counters, marks, words, memory)
+}
+
 // Reads to the end of the trace. The count of turns is there so that the loop ends.
 fn read_all(
     buffer: &mut [u8],
@@ -59,7 +77,7 @@ fn read_all(
     memory: &mut [u32],
 ) -> Progress
     requires { ⌜ tables (now blocks) (now counters) (now marks) (now words) (now memory) ≡ fresh traceSetup ⌝ }
-    ensures { λ r. ⌜ Reached (stage (r .count) (now (blocks .exit)) (now (counters .exit)) (now (marks .exit)) (now (words .exit)) (now (memory .exit))) ⌝ }
+    ensures { λ r. ⌜ Reached (reading r (now (blocks .exit)) (now (counters .exit)) (now (marks .exit)) (now (words .exit)) (now (memory .exit))) ⌝ }
 {
     let mut at = Progress {
         going: true,
@@ -92,7 +110,7 @@ fn read_report(
     memory: &mut [u32],
 ) -> Answer
     requires { ⌜ tables (now blocks) (now counters) (now marks) (now words) (now memory) ≡ fresh traceSetup ⌝ }
-    ensures { λ r. ⌜ Reported (r .report) ⌝ }
+    ensures { λ r. ⌜ Reported r ⌝ }
 {
     let mut buffer = io::large_buffer();
     let end = read_all(&mut buffer, blocks, counters, marks, words, memory);
@@ -120,7 +138,7 @@ fn tell(answer: Answer) {
 
 // The program `buscount`: what it told.
 pub fn run() -> Answer
-    ensures { λ r. ⌜ Reported (r .report) ⌝ }
+    ensures { λ r. ⌜ Reported r ⌝ }
 {
     let mut blocks = [0u32; 32];
     let mut counters = [0u32; 32];

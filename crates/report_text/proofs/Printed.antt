@@ -1,7 +1,6 @@
 -- The definition on document 01's example.
-use Prim.Native.Nat.{ℕ}
 use mathlib.Core.Path.{_≡_, refl}
-use mathlib.Core.List.{List, [], _∷_, _++_}
+use mathlib.Core.List.{[], _∷_, _++_}
 use Rattle.report_text.specs.Text.{decimal, field, line, accountLines, text}
 
 -- "requests 4", "fetch 8", "write-back 0", "update 2", "total 10", "ended 0 0"

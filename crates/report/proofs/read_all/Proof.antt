@@ -1,15 +1,16 @@
 use borrow.Author.Needs.{needs}
+use borrow.Author.Tests.{not-true, not-false}
+use native.Mathlib.Omega.{arith}
 use mathlib.Core.Path.{_≡_, refl}
 use lib.ListN.{length}
-use Rattle.trace.specs.Counting.{stage}
-use Rattle.report.specs.Reading.{Reached}
-use Rattle.report.proofs.Laws.{reached-start, reached-ready, reached-more}
+use Rattle.report.specs.Reading.{reading}
+use Rattle.report.proofs.Laws.{Going, going-start, going-ready, going-more, reached-end, reached-last}
 use Rattle.report.proofs.read_all.Statement.{statement}
 use Rattle.report.proofs.read_all.Tie as tie
 
 abbrev Inv-loop : tie.InvT-loop
 Inv-loop buffer₀ blocks₀ counters₀ marks₀ words₀ memory₀ at₀ turns₀ buffer blocks counters marks words memory at turns =
-    Reached (stage (at .count) blocks counters marks words memory) × (length buffer ≡ length buffer₀) × (length blocks ≡ length blocks₀)
+    Going (reading at blocks counters marks words memory) turns × (length buffer ≡ length buffer₀) × (length blocks ≡ length blocks₀)
     × (length counters ≡ length counters₀) × (length marks ≡ length marks₀) × (length words ≡ length words₀) × (length memory ≡ length memory₀)
 
 abbrev μ-loop : tie.MeasureT-loop
@@ -19,10 +20,10 @@ new-requires : tie.Need-new-requires Inv-loop μ-loop
 new-requires c κs = search needs
 
 loop-holds : tie.Need-loop-holds Inv-loop μ-loop
-loop-holds c = (reached-start _ _ (c .new .ensures) (c .before .before .before .before .before .before .before .pre), refl, refl, refl, refl, refl, refl)
+loop-holds c = (going-start _ _ _ (c .new .ensures) (c .before .before .before .before .before .before .before .pre) refl, refl, refl, refl, refl, refl, refl)
 
 read-some-requires : tie.Need-read-some-requires Inv-loop μ-loop
-read-some-requires c κs = reached-ready _ (c .before .before .before .before .before .before .before .loop .inv .0)
+read-some-requires c κs = going-ready _ _ (c .before .before .before .before .before .before .before .loop .inv .0)
 
 same-length : tie.Need-same-length Inv-loop μ-loop
 same-length c = search needs
@@ -43,7 +44,7 @@ same-length-6 : tie.Need-same-length-6 Inv-loop μ-loop
 same-length-6 c = search needs
 
 returns : tie.Need-returns Inv-loop μ-loop
-returns c = reached-more _ _ _ (c .before .before .before .before .before .before .before .before .before .before .before .before .before .before .before .before .before .before .before .before .before .before .loop .inv .0) (c .before .before .before .before .before .before .before .before .before .before .before .before .before .before .read-some .ensures)
+returns c = reached-end _ _ (c .before .before .before .before .before .before .before .before .before .before .before .before .before .before .before .before .before .before .before .before .before .before .loop .inv .0) _ _ (c .before .before .before .before .before .before .before .before .before .before .before .before .before .before .read-some .ensures) (not-true _ (c .if1 .taken))
 
 sub-turns : tie.Need-sub-turns Inv-loop μ-loop
 sub-turns c = search needs
@@ -52,7 +53,7 @@ loop-less : tie.Need-loop-less Inv-loop μ-loop
 loop-less c = search needs
 
 loop-again : tie.Need-loop-again Inv-loop μ-loop
-loop-again c = (reached-more _ _ _ (c .before .before .before .before .before .before .before .before .before .before .before .before .before .before .before .before .before .before .before .before .before .before .loop .inv .0) (c .before .before .before .before .before .before .before .before .before .before .before .before .before .before .read-some .ensures), search needs, search needs, search needs, search needs, search needs, search needs)
+loop-again c = (going-more _ _ (c .before .before .before .before .before .before .before .before .before .before .before .before .before .before .before .before .before .before .before .before .before .before .loop .inv .0) _ _ (c .before .before .before .before .before .before .before .before .before .before .before .before .before .before .read-some .ensures) (not-false _ (c .if1 .left)) _ (omega arith), search needs, search needs, search needs, search needs, search needs, search needs)
 
 same-length-7 : tie.Need-same-length-7 Inv-loop μ-loop
 same-length-7 c = search needs
@@ -73,7 +74,7 @@ same-length-12 : tie.Need-same-length-12 Inv-loop μ-loop
 same-length-12 c = search needs
 
 returns-2 : tie.Need-returns-2 Inv-loop μ-loop
-returns-2 c = c .before .loop .inv .0
+returns-2 c = reached-last _ _ (c .before .loop .inv .0) (omega (arith, c .loop-test .left))
 
 pub read-all-spec : {M : Type 1} → statement M
 read-all-spec =

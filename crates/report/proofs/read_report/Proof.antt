@@ -1,3 +1,4 @@
+use mathlib.Core.Path.{refl}
 use Rattle.report.proofs.Laws.{reached-ready, reached-reported}
 use borrow.Author.Needs.{needs}
 use Rattle.report.proofs.read_report.Statement.{statement}
@@ -31,7 +32,7 @@ same-length-5 : tie.Need-same-length-5
 same-length-5 c = search needs
 
 returns : tie.Need-returns
-returns c = reached-reported _ _ (c .before .before .before .before .before .before .before .before .before .before .before .before .before .before .before .before .before .before .before .before .before .before .before .before .before .before .before .before .read-all .ensures) (c .before .before .before .before .before .before .before .before .before .before .finish .ensures)
+returns c = reached-reported _ _ _ (c .before .before .before .before .before .before .before .before .before .before .before .before .before .before .before .before .before .before .before .before .before .before .before .before .before .before .before .before .read-all .ensures) refl (c .before .before .before .before .before .before .before .before .before .before .finish .ensures)
 
 pub read-report-spec : {M : Type 1} → statement M
 read-report-spec =
