@@ -3,8 +3,12 @@
  * Link libhost.a, which `rt staticlib host` writes. The first half declares what the archive exports; the second
  * half wraps it in structs.
  *
- * What the host owes at each call: every pointer is valid for its length and not NULL, also at length 0, and no
- * buffer that the callee may write overlaps another one. Whatever the numbers are, the call is safe and ends. */
+ * What the host owes at each call: every pointer is valid for its length and not NULL, also at length 0, and nothing
+ * that the callee may write (tables, values, account, out-parameters) overlaps anything else that it is passed.
+ * Whatever the numbers are, the call is safe and ends.
+ *
+ * All but a look return the number of the first condition met, in the order given at each function, or 0 if none is.
+ * Every out-parameter is written, whatever is returned. Places count from 0. */
 #ifndef CUZKELOR_H
 #define CUZKELOR_H
 
@@ -15,7 +19,7 @@
 extern "C" {
 #endif
 
-/* Why something was refused. By 1, 2, 5, 20 and 21 no lent buffer changes. */
+/* Why something was refused. By 1, 2, 5, 20 and 21 no table, no value and no account that a run adds to changes. */
 enum cuzkelor_refusal {
     CUZKELOR_NO_REFUSAL = 0,
     /* for what came in */
@@ -31,8 +35,8 @@ enum cuzkelor_refusal {
     /* for how things stand */
     CUZKELOR_UNSOUND_TABLES = 20,
     CUZKELOR_IMPOSSIBLE_ACCOUNT = 21,
-    CUZKELOR_ACCOUNT_FULL = 22, /* at 1,000,000 requests */
-    CUZKELOR_LINE_IN_USE = 23,
+    CUZKELOR_ACCOUNT_FULL = 22, /* at 1,000,000 requests or more */
+    CUZKELOR_LINE_IN_USE = 23,  /* at a fetch */
     CUZKELOR_BLOCK_NOT_HELD = 24, /* at a drop or a write-back */
     CUZKELOR_DROP_OF_MARKED = 25,
     CUZKELOR_NO_REQUEST_LEFT = 26,
@@ -59,14 +63,15 @@ enum cuzkelor_kind {
  * and dirty marks have processors x lines numbers; words has block_words times as many; memory has
  * block_count x block_words. */
 
-/* Fills all tables with 0. */
+/* Fills all tables with 0. Checks 1, 2; a refusal changes no table. */
 uint32_t cuzkelor_start(uint32_t processors, uint32_t lines, uint32_t block_words, uint32_t block_count,
                         uint32_t *blocks, size_t blocks_length, uint32_t *counters, size_t counters_length,
                         uint32_t *marks, size_t marks_length, uint32_t *words, size_t words_length,
                         uint32_t *memory, size_t memory_length);
 
-/* Where in words the copy of a block in a processor's cache begins, and how many words it has; 0 and 0 if it is
- * not held there. */
+/* Where in words the copy of a block in a processor's cache begins, and how many words it has. Both are 0 if 1, 2 (of
+ * these three tables), 3 or 8 would apply, or if the line's counter is 0 or it names another block. Soundness plays no
+ * part. */
 size_t cuzkelor_look_offset(uint32_t processors, uint32_t lines, uint32_t block_words, uint32_t block_count,
                             const uint32_t *blocks, size_t blocks_length, const uint32_t *counters,
                             size_t counters_length, const uint32_t *words, size_t words_length, uint32_t processor,
@@ -77,7 +82,12 @@ size_t cuzkelor_look_length(uint32_t processors, uint32_t lines, uint32_t block_
                             uint32_t block);
 
 /* Serves requests in turn, to the first refused one, and adds to the account. A request is four numbers: processor,
- * operation, variable, value; fewer than four at the end name none. values has one word for each request. */
+ * operation, variable, value; fewer than four at the end name none. values has one word for each request, which gets
+ * the value supplied or written. Checks 1, 2, 20, 21, then for each request 3, 4, 22.
+ *
+ * No refusal: taken is the number of requests, place is 0. By 1, 2, 20 or 21: taken and place are 0, nothing lent
+ * changes. By 3, 4 or 22: taken and place are the refused request's place; tables, account and values are as the
+ * requests before it left them. */
 uint32_t cuzkelor_run(uint32_t processors, uint32_t lines, uint32_t block_words, uint32_t block_count,
                       uint32_t *blocks, size_t blocks_length, uint32_t *counters, size_t counters_length,
                       uint32_t *marks, size_t marks_length, uint32_t *words, size_t words_length, uint32_t *memory,
@@ -86,14 +96,24 @@ uint32_t cuzkelor_run(uint32_t processors, uint32_t lines, uint32_t block_words,
                       size_t requests_length, uint32_t *values, size_t values_length, size_t *taken, size_t *place);
 
 /* Plays a rival's schedule from empty caches. An entry is three numbers: kind, processor, block; fewer than three at
- * the end name none. blocks, held and marks have processors x lines numbers. The cost is 0 if refused. */
+ * the end name none. A completion's processor and block play no part. blocks, held and marks have processors x lines
+ * numbers. Checks 1, 2, 5; at each fetch, write-back or drop 3, 8, then 23, or 24 and 25; at each completion 26, 3, 4,
+ * 9, 27; at the end 28.
+ *
+ * No refusal: place is 0, and the tables show the rival's last copies, with empty lines all 0. By 1, 2 or 5: place and
+ * cost are 0, no table changes. By any other: place is the entry's (28: the number of entries), cost is 0, and the
+ * tables are all 0. */
 uint32_t cuzkelor_price(uint32_t processors, uint32_t lines, uint32_t block_words, uint32_t block_count,
                         uint32_t *blocks, size_t blocks_length, uint32_t *held, size_t held_length, uint32_t *marks,
                         size_t marks_length, const uint32_t *entries, size_t entries_length,
                         const uint32_t *requests, size_t requests_length, size_t *place, uint32_t *cost);
 
 /* Counts a whole din trace, with 4 processors, 8 lines, 4 words in a block and 64 blocks. It starts the tables
- * itself. The line is 0 if nothing is refused, or if tables of wrong lengths are. */
+ * itself, and the account is written, not added to. Checks 2, then for each line 6, 7, 3, 4, 22, and stops at the
+ * first refused one.
+ *
+ * No refusal: line is 0. By 2: line and account are 0, no table changes. By any other: line is the refused line's
+ * number, from 1; tables and account are as the lines before it left them. */
 uint32_t cuzkelor_count_trace(const uint8_t *bytes, size_t bytes_length, uint32_t *blocks, size_t blocks_length,
                               uint32_t *counters, size_t counters_length, uint32_t *marks, size_t marks_length,
                               uint32_t *words, size_t words_length, uint32_t *memory, size_t memory_length,

@@ -260,7 +260,7 @@ static void a_schedule(void) {
     check(answer.refusal == 0 && answer.cost == 17 && marks[L] == 0, "written back");
 }
 
-/* What is not refused and what is, with out-parameters that hold garbage before the call. */
+/* A call that is refused at once writes its out-parameters too, which hold garbage before it. */
 static void out_parameters(void) {
     struct host h = fresh(SETUP);
     cuzkelor_setup bad = {0, L, P, M};

@@ -7,20 +7,15 @@ use Rattle.protocol.specs.declared.PriceAnswer.{PriceAnswer}
 use Rattle.protocol.specs.declared.Setup.{Setup}
 use Rattle.protocol.specs.declared.Block.{Block}
 use Rattle.protocol.specs.declared.Account.{Account}
-use Rattle.protocol.specs.declared.RunAnswer.{RunAnswer}
-use Rattle.trace_lines.specs.declared.Report.{Report}
 use Rattle.trace_lines.specs.Trace.{Ended}
 
 -- n processors, l lines in each cache, p words in a block, m blocks
 abbrev pub setupOf : ℕ → ℕ → ℕ → ℕ → Setup
 setupOf n l p m = record { processors = n; lines = l; words = p; blocks = m }
 
-abbrev pub blockOf : ℕ → Block
-blockOf b = record { 0 = b }
-
--- n requests taken, refusal r at place k
-abbrev pub answerOf : ℕ → ℕ → ℕ → RunAnswer
-answerOf n r k = record { taken = n; refusal = r; place = k }
+-- the block of this number: protocol's blockOf is that of a variable
+abbrev pub blockNumbered : ℕ → Block
+blockNumbered b = record { 0 = b }
 
 -- refusal r at line n
 abbrev pub reportOf : Account → ℕ → ℕ → Tables → Ended

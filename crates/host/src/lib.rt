@@ -1,4 +1,4 @@
-// The product for hosts in C and Rust: functions of plain numbers, and nothing else crosses. Every out-parameter is always written.
+// The product for hosts in C and Rust: functions of numbers and slices of numbers alone. Every out-parameter is always written.
 use protocol::Account;
 use protocol::Block;
 use protocol::PriceAnswer;
@@ -6,12 +6,12 @@ use protocol::Setup;
 ghost use mathlib.Core.Path.{_≡_};
 ghost use Rattle.protocol.specs.Tables.{tables};
 ghost use Rattle.protocol.specs.Rival.{rival};
-ghost use Rattle.protocol.specs.Runs.{startRefusal, started, run as ran};
+ghost use Rattle.protocol.specs.Runs.{answered, startRefusal, started, run as ran};
 ghost use Rattle.protocol.specs.Pricer.{price as priced, priceTables, numberOf, placeOf, costOf};
 ghost use Rattle.run.specs.Outcomes.{outcome};
 ghost use Rattle.trace_lines.specs.Trace.{endedOn};
 ghost use Rattle.numbers.specs.Numbers.{requestsOf, entriesOf, accountOf, lookLength, lookOffset};
-ghost use Rattle.host.specs.Host.{setupOf, blockOf, answerOf, reportOf, Told};
+ghost use Rattle.host.specs.Host.{setupOf, blockNumbered, reportOf, Told};
 
 // A setup by its four numbers.
 fn setup_of(processors: u32, lines: u32, block_words: u32, block_count: u32) -> Setup
@@ -58,7 +58,7 @@ pub extern "C" fn cuzkelor_look_length(
     processor: u32,
     block: u32,
 ) -> usize
-    ensures { λ r. ⌜ r ≡ lookLength (setupOf processors lines «block_words» «block_count») (now (blocks .entry)) (now (counters .entry)) (now (words .entry)) processor (blockOf block) ⌝ }
+    ensures { λ r. ⌜ r ≡ lookLength (setupOf processors lines «block_words» «block_count») (now (blocks .entry)) (now (counters .entry)) (now (words .entry)) processor (blockNumbered block) ⌝ }
 {
     let setup = setup_of(processors, lines, block_words, block_count);
     numbers::look_length(setup, processor, Block(block), blocks, counters, words)
@@ -77,7 +77,7 @@ pub extern "C" fn cuzkelor_look_offset(
     processor: u32,
     block: u32,
 ) -> usize
-    ensures { λ r. ⌜ r ≡ lookOffset (setupOf processors lines «block_words» «block_count») (now (blocks .entry)) (now (counters .entry)) (now (words .entry)) processor (blockOf block) ⌝ }
+    ensures { λ r. ⌜ r ≡ lookOffset (setupOf processors lines «block_words» «block_count») (now (blocks .entry)) (now (counters .entry)) (now (words .entry)) processor (blockNumbered block) ⌝ }
 {
     let setup = setup_of(processors, lines, block_words, block_count);
     numbers::look_offset(setup, processor, Block(block), blocks, counters, words)
@@ -104,7 +104,7 @@ pub extern "C" fn cuzkelor_run(
     taken: &mut usize,
     place: &mut usize,
 ) -> u32
-    ensures { λ r. ⌜ outcome (answerOf (now (taken .exit)) r (now (place .exit))) (tables (now (blocks .exit)) (now (counters .exit)) (now (marks .exit)) (now (words .exit)) (now (memory .exit)))
+    ensures { λ r. ⌜ outcome (answered (now (taken .exit)) r (now (place .exit))) (tables (now (blocks .exit)) (now (counters .exit)) (now (marks .exit)) (now (words .exit)) (now (memory .exit)))
         (accountOf (now («account_requests» .exit)) (now («account_fetch» .exit)) (now («account_write_back» .exit)) (now («account_update» .exit))) (now (values .exit))
         ≡ ran (setupOf processors lines «block_words» «block_count») (tables (now (blocks .entry)) (now (counters .entry)) (now (marks .entry)) (now (words .entry)) (now (memory .entry)))
         (accountOf (now («account_requests» .entry)) (now («account_fetch» .entry)) (now («account_write_back» .entry)) (now («account_update» .entry))) (requestsOf (now (requests .entry))) (now (values .entry)) ⌝ }

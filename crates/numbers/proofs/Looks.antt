@@ -1,6 +1,6 @@
 -- A look's offset and length name the part that it shows, and where it shows one, its place fits. Assumes nothing.
 use Prim.Native.Nat.{ℕ, zero, suc, _*_, _≤_, _<_}
-use mathlib.Core.Path.{_≡_, refl, sym, ap, _∙_}
+use mathlib.Core.Path.{_≡_, refl, ap}
 use mathlib.Core.Bool.{Bool, true, false, cond}
 use mathlib.Core.List.{List, [], _∷_}
 use native.Mathlib.Omega.{arith}
@@ -12,7 +12,7 @@ use Rattle.protocol.specs.Board.{slot, slots, wordIndex}
 use Rattle.protocol.specs.Runs.{looked}
 use Rattle.protocol.specs.declared.Setup.{Setup}
 use Rattle.protocol.specs.declared.Block.{Block}
-use Rattle.holders.proofs.Rows.{row-end}
+use Rattle.protocol.proofs.Rows.{row-end}
 use Rattle.tables.specs.Entries.{seen}
 use Rattle.protocol.proofs.Board.{few-line-words}
 use Rattle.tables.proofs.Tests.{Shown, shown as tells}

@@ -16,18 +16,18 @@ use Rattle.numbers.specs.Numbers.{requestOf, requestsOf, entryOf, entrie
 use Rattle.numbers.proofs.Decoding.{request-count, request-at as request-is, entry-count, entry-at as entry-is}
 
 module _ (s : Setup) (r : Rival) (ms ns : List ℕ) where
-  abbrev pub Sound : Stage → Type 0
-  Sound x = Inv s r (entriesOf ms) (requestsOf ns) x
+  abbrev pub Invariant : Stage → Type 0
+  Invariant x = Inv s r (entriesOf ms) (requestsOf ns) x
 
-  abbrev pub left : Stage → ℕ
-  left x = μ s r (entriesOf ms) (requestsOf ns) x
+  abbrev pub measure : Stage → ℕ
+  measure x = μ s r (entriesOf ms) (requestsOf ns) x
 
-  pub begins : Sound (begun s r (length ms / 3) (length ns / 4))
+  pub begins : Invariant (begun s r (length ms / 3) (length ns / 4))
   begins =
-      subst (λ (n : ℕ). Sound (begun s r (length ms / 3) n)) (request-count ns)
-      (subst (λ (m : ℕ). Sound (begun s r m (length (requestsOf ns)))) (entry-count ms) (inv-start s r (entriesOf ms) (requestsOf ns)))
+      subst (λ (n : ℕ). Invariant (begun s r (length ms / 3) n)) (request-count ns)
+      (subst (λ (m : ℕ). Invariant (begun s r m (length (requestsOf ns)))) (entry-count ms) (inv-start s r (entriesOf ms) (requestsOf ns)))
 
-  module _ (x : Stage) (i : Sound x) (go : x .progress .going ≡ true) where
+  module _ (x : Stage) (i : Invariant x) (go : x .progress .going ≡ true) where
     -- ---- an entry
 
     module _ (flag : x .progress .completing ≡ false) where
@@ -42,11 +42,11 @@ module _ (s : Setup) (r : Rival) (ms ns : List ℕ) where
         taken : took s x (getD (entriesOf ms) a no-entry) ≡ y
         taken = ap (took s x) (sym (is ∙ entry-is ms a no-entry entry-within)) ∙ sym after
 
-        pub takes : Sound y
-        takes = subst Sound taken (inv-took s r (entriesOf ms) (requestsOf ns) x i go flag)
+        pub takes : Invariant y
+        takes = subst Invariant taken (inv-took s r (entriesOf ms) (requestsOf ns) x i go flag)
 
-        pub takes-falls : left y < left x
-        takes-falls = subst (λ (z : Stage). left z < left x) taken (falls-took s r (entriesOf ms) (requestsOf ns) x i go flag)
+        pub takes-falls : measure y < measure x
+        takes-falls = subst (λ (z : Stage). measure z < measure x) taken (falls-took s r (entriesOf ms) (requestsOf ns) x i go flag)
 
     -- ---- the request of a completion
 
@@ -62,8 +62,8 @@ module _ (s : Setup) (r : Rival) (ms ns : List ℕ) where
         done : completed s x (getD (requestsOf ns) k no-request) ≡ y
         done = ap (completed s x) (sym (is ∙ request-is ns k no-request request-within)) ∙ sym after
 
-        pub completes : Sound y
-        completes = subst Sound done (inv-completed s r (entriesOf ms) (requestsOf ns) x i go flag)
+        pub completes : Invariant y
+        completes = subst Invariant done (inv-completed s r (entriesOf ms) (requestsOf ns) x i go flag)
 
-        pub completes-falls : left y < left x
-        completes-falls = subst (λ (z : Stage). left z < left x) done (falls-completed s r (entriesOf ms) (requestsOf ns) x i go flag)
+        pub completes-falls : measure y < measure x
+        completes-falls = subst (λ (z : Stage). measure z < measure x) done (falls-completed s r (entriesOf ms) (requestsOf ns) x i go flag)

@@ -86,7 +86,7 @@ fn entry_at(numbers: &[u32], i: usize) -> Entry
     entry_of(numbers[k], numbers[k + 1], numbers[k + 2])
 }
 
-// An account of these numbers. They are numbers of 32 bits, which the sums of a run lean on.
+// An account of these numbers. That they are below 2^32 is said too: a run's sums fit because of it.
 fn account_of(requests: u32, fetch: u32, write_back: u32, update: u32) -> Account
     ensures { λ r. ⌜ (r ≡ accountOf requests fetch «write_back» update) × Room r 0 nothing ⌝ }
 {

@@ -89,7 +89,7 @@ pub struct Report {
     pub line: u32,
 }
 
-/// Fills all tables with 0.
+/// Fills all tables with 0; a refusal changes none.
 pub fn start(setup: Setup, tables: &mut Tables) -> Result<(), Refusal> {
     // SAFETY: five owned buffers, each with its length.
     let number = unsafe {
@@ -152,7 +152,9 @@ pub fn look(setup: Setup, tables: &Tables, processor: u32, block: Block) -> &[u3
     &words[offset..offset + length]
 }
 
-/// Serves the requests in turn, to the first refused one. `values` has one word for each request.
+/// Serves the requests in turn, to the first refused one, and adds to the account. `values` has one
+/// word for each request, which gets the value supplied or written. By 1, 2, 20 and 21 nothing
+/// changes; by 3, 4 and 22 everything is as the requests before the refused one left it.
 pub fn run(
     setup: Setup,
     tables: &mut Tables,
@@ -199,7 +201,9 @@ pub fn run(
     }
 }
 
-/// Plays a rival's schedule for the requests from empty caches, and adds up its cost.
+/// Plays a rival's schedule for the requests from empty caches, and adds up its cost. Accepted, the
+/// tables show the rival's last copies; by 1, 2 and 5 they do not change; by any other refusal they
+/// are all 0, and the place of 28 is the schedule's length.
 pub fn price(
     setup: Setup,
     tables: &mut RivalTables,
@@ -235,7 +239,8 @@ pub fn price(
     }
 }
 
-/// Counts a whole din trace over tables of `TRACE_SETUP`, which it starts itself.
+/// Counts a whole din trace over tables of `TRACE_SETUP`, which it starts itself. By 2 they do not
+/// change; by any other refusal they are as the lines before the refused one left them.
 pub fn count_trace(bytes: &[u8], tables: &mut Tables) -> Report {
     let mut account = Account::default();
     let mut line = 0;

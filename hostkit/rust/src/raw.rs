@@ -1,7 +1,8 @@
 //! What the archive exports. A slice is two arguments, its pointer and its length.
 //!
-//! A caller owes valid pointers, also at length 0, and no overlap with what may be written. Every
-//! out-parameter is always written. The safe functions of this crate are over these.
+//! A caller owes valid pointers, not null also at length 0, and no overlap with what may be written.
+//! Every out-parameter is always written. What each call checks and leaves, hostkit/cuzkelor.h says.
+//! The safe functions of this crate are over these.
 
 extern "C" {
     pub fn cuzkelor_start(

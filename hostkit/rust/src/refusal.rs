@@ -1,6 +1,6 @@
 use std::fmt;
 
-/// Why something was refused. By 1, 2, 5, 20 and 21 no lent buffer changes.
+/// Why something was refused. By 1, 2, 5, 20 and 21 nothing that was lent changes.
 #[derive(Clone, Copy, Debug, PartialEq, Eq, PartialOrd, Ord, Hash)]
 #[repr(u32)]
 pub enum Refusal {

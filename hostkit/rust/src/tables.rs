@@ -29,7 +29,7 @@ fn slot_count(setup: Setup) -> usize {
 }
 
 impl Tables {
-    /// Tables of the lengths that a setup requires, all 0.
+    /// Tables of the lengths that a setup requires, all 0; empty where it is out of range.
     pub fn sized(setup: Setup) -> Tables {
         let slots = slot_count(setup);
         let p = setup.block_words as usize;
@@ -56,7 +56,7 @@ impl Tables {
 }
 
 impl RivalTables {
-    /// Tables of the lengths that a setup requires.
+    /// Tables of the lengths that a setup requires, all 0; empty where it is out of range.
     pub fn sized(setup: Setup) -> RivalTables {
         let slots = slot_count(setup);
         RivalTables {

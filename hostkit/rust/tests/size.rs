@@ -100,13 +100,12 @@ fn one_past_the_limits() {
 /// Numbers that name no further entry or request are not counted by 5.
 #[test]
 fn numbers_that_name_nothing() {
-    let entries = vec![9; 2];
-    let requests = vec![9; 3];
+    let (schedule, requests) = lists(1_000_000);
     let answer = price(
         SETUP,
         &mut used_tables(),
-        &Schedule::from_numbers(entries),
-        &Requests::from_numbers(requests),
+        &Schedule::from_numbers([schedule.numbers(), &[9; 2]].concat()),
+        &Requests::from_numbers([requests.numbers(), &[9; 3]].concat()),
     );
-    assert_eq!(answer, PriceAnswer::Accepted { cost: 0 });
+    assert_eq!(answer, PriceAnswer::Accepted { cost: 8_000_000 });
 }

@@ -18,7 +18,7 @@ slot-requires : tie.Need-slot-requires
 slot-requires c κs =
     let a = c .before .before .before .before .before .args in
     let v = shows (a .setup) (now (a .blocks)) (now (a .counters)) (now (a .words)) (a .processor) (a .block) (λ z. c .if1 .left (c .before .look-length .ensures ∙ z)) in
-    (v .fits, v .processor)
+    (v .fits, omega (arith, v .processor, v .fits))
 
 cast-result : tie.Need-cast-result
 cast-result c = search needs

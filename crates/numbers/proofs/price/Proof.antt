@@ -6,7 +6,7 @@ use Rattle.protocol.specs.Rival.{Rival, rival}
 use Rattle.pricing.specs.Stages.{stage}
 use Rattle.pricer.proofs.Loop.{due, inv-end}
 use Rattle.numbers.specs.Numbers.{requestsOf, entriesOf}
-use Rattle.numbers.proofs.Prices.{Sound, left, begins, request-within, completes, completes-falls, entry-within, takes, takes-falls}
+use Rattle.numbers.proofs.Prices.{Invariant, measure, begins, request-within, completes, completes-falls, entry-within, takes, takes-falls}
 use Rattle.numbers.proofs.price.Statement.{statement}
 use Rattle.numbers.proofs.price.Tie as tie
 use Rattle.numbers.proofs.price.Reads as reads
@@ -19,12 +19,12 @@ use Rattle.schedule.proofs.take.Reads as take-reads
 
 abbrev Inv-loop : tie.InvT-loop
 Inv-loop setup blocks₀ held₀ marks₀ entries requests entry-count request-count p₀ blocks held marks p =
-    ((r : Rival) → Sound setup r entries requests (stage p₀ blocks₀ held₀ marks₀) → Sound setup r entries requests (stage p blocks held marks))
+    ((r : Rival) → Invariant setup r entries requests (stage p₀ blocks₀ held₀ marks₀) → Invariant setup r entries requests (stage p blocks held marks))
     × (length blocks ≡ length blocks₀) × (length held ≡ length held₀) × (length marks ≡ length marks₀)
 
 abbrev μ-loop : tie.MeasureT-loop
 μ-loop setup blocks₀ held₀ marks₀ entries requests entry-count request-count p₀ blocks held marks p =
-    left setup (rival blocks₀ held₀ marks₀) entries requests (stage p blocks held marks)
+    measure setup (rival blocks₀ held₀ marks₀) entries requests (stage p blocks held marks)
 
 begin-requires : tie.Need-begin-requires Inv-loop μ-loop
 begin-requires c κs = search needs
@@ -34,7 +34,7 @@ loop-holds c = (λ r i. i, refl, refl, refl)
 
 -- what the loop began with is the start of the whole pricing
 here : (c : tie.At-loop Inv-loop μ-loop)
-    → Sound (c .before .before .before .before .before .before .before .before .before .before .before .before .before .before .before .before .args .setup) (rival (now (c .before .before .before .before .before .before .before .before .before .before .before .before .before .before .before .before .args .blocks)) (now (c .before .before .before .before .before .before .before .before .before .before .before .before .before .before .before .before .args .held)) (now (c .before .before .before .before .before .before .before .before .before .before .before .before .before .before .before .before .args .marks))) (now (c .before .before .before .before .before .before .before .before .before .before .before .before .before .before .before .before .args .entries)) (now (c .before .before .before .before .before .before .before .before .before .before .before .before .before .before .before .before .args .requests)) (stage (c .loop .p) (c .loop .blocks) (c .loop .held) (c .loop .marks))
+    → Invariant (c .before .before .before .before .before .before .before .before .before .before .before .before .before .before .before .before .args .setup) (rival (now (c .before .before .before .before .before .before .before .before .before .before .before .before .before .before .before .before .args .blocks)) (now (c .before .before .before .before .before .before .before .before .before .before .before .before .before .before .before .before .args .held)) (now (c .before .before .before .before .before .before .before .before .before .before .before .before .before .before .before .before .args .marks))) (now (c .before .before .before .before .before .before .before .before .before .before .before .before .before .before .before .before .args .entries)) (now (c .before .before .before .before .before .before .before .before .before .before .before .before .before .before .before .before .args .requests)) (stage (c .loop .p) (c .loop .blocks) (c .loop .held) (c .loop .marks))
 here c =
     let a = c .before .before .before .before .before .before .before .before .before .before .before .before .before .before .before .before .args in
     c .loop .inv .0 (rival (now (a .blocks)) (now (a .held)) (now (a .marks))) (rw (c .before .before .before .before .before .before .before .begin .ensures) (begins (a .setup) (rival (now (a .blocks)) (now (a .held)) (now (a .marks))) (now (a .entries)) (now (a .requests))))

@@ -1,3 +1,5 @@
+use mathlib.Core.Path.{_≡_}
+use native.Mathlib.Omega.{arith}
 use borrow.Author.Tests.{eq-eqb, ne-eqb}
 use Rattle.numbers.specs.Numbers.{requestOf}
 use Rattle.numbers.proofs.request_of.Statement.{statement}
@@ -5,11 +7,11 @@ use Rattle.numbers.proofs.request_of.Tie as tie
 
 returns : tie.Need-returns
 unfolding requestOf
-returns c = simp (eq-eqb _ _ (c .if1 .taken))
+returns c = simp (eq-eqb (c .before .args .operation) 1 (omega (arith, c .if1 .taken)))
 
 returns-2 : tie.Need-returns-2
 unfolding requestOf
-returns-2 c = simp (ne-eqb _ _ (c .if1 .left))
+returns-2 c = simp (ne-eqb (c .before .args .operation) 1 (λ (e : c .before .args .operation ≡ 1). omega (arith, c .if1 .left)))
 
 pub request-of-spec : {M : Type 1} → statement M
 request-of-spec = tie.close (tie.spec returns returns-2)

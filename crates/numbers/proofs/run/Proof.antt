@@ -1,6 +1,7 @@
 use borrow.Author.Needs.{needs}
 use mathlib.Core.Path.{_≡_, refl, ap, _∙_}
 use denote.Ref.{now}
+use native.Mathlib.Omega.{arith}
 use lib.ListN.{length}
 use Rattle.protocol.specs.Tables.{tables}
 use Rattle.protocol.specs.Runs.{run as ran}
@@ -47,7 +48,7 @@ request-at-requires c κs =
     let a = c .before .before .before .before .before .before .before .before .before .before .before .before .before .before .before .before .before .args in
     let k = c .before .before .before .before .before .before .before .before .before .account-of in
     let l = c .before .loop in
-    within (a .setup) (tables (now (a .blocks)) (now (a .counters)) (now (a .marks)) (now (a .words)) (now (a .memory))) (k .result) (now (a .requests)) (now (a .values)) (stage (l .p) (l .blocks) (l .counters) (l .marks) (l .words) (l .memory) (l .values)) (l .inv .0) (c .loop-test .taken)
+    omega (arith, within (a .setup) (tables (now (a .blocks)) (now (a .counters)) (now (a .marks)) (now (a .words)) (now (a .memory))) (k .result) (now (a .requests)) (now (a .values)) (stage (l .p) (l .blocks) (l .counters) (l .marks) (l .words) (l .memory) (l .values)) (l .inv .0) (c .loop-test .taken))
 
 turn-requires : tie.Need-turn-requires Inv-loop μ-loop
 turn-requires c κs =

@@ -91,7 +91,7 @@ fn empty_line_with_a_mark(draw: &mut Draw, _: Board, tables: &mut Tables) -> boo
     let Some(at) = empty_line(draw, tables) else {
         return false;
     };
-    tables.marks[at] = draw.pick(&[1, 2]);
+    tables.marks[at] = 1;
     true
 }
 

@@ -230,12 +230,12 @@ impl List {
         }
     }
 
-    /// A run that is refused at once, by the first of some conditions, and changes nothing.
+    /// A run that some of 1, 2, 20 and 21 meet: the first of them refuses it, and nothing changes.
     fn refused(&mut self, draw: &mut Draw) -> Outcome {
         let asks = self.asks(draw);
         let mut lent = self.lent(draw, asks.len());
         let mut board = self.board;
-        let causes = draw.pick(&[1, 2, 4, 8, 3, 6, 12, 15]);
+        let causes: u32 = draw.pick(&[1, 2, 4, 8, 3, 6, 12, 15]);
         if causes & 1 != 0 {
             board = draw.board_out_of_range(self.board);
         }
@@ -250,7 +250,8 @@ impl List {
         }
         let before = lent.clone();
         let outcome = compared(board, &mut lent, &asks, &listed(draw, &asks));
-        assert!(matches!(outcome.refusal, 1 | 2 | 20 | 21));
+        let first = [1, 2, 20, 21][causes.trailing_zeros() as usize];
+        assert_eq!(outcome, Outcome::at_once(first));
         assert_eq!(lent, before, "nothing changes");
         outcome
     }

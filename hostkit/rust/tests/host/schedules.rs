@@ -245,11 +245,13 @@ fn too_many(draw: &mut Draw, tally: &mut Tally) {
         };
         let lists = question.lists();
         let mut tables = lend::rival_garbage(draw, question.board);
-        tally.count(compared(&question, tables.clone(), &lists));
+        let over = compared(&question, tables.clone(), &lists);
         disturb_lengths(draw, &mut tables);
-        tally.count(compared(&question, tables.clone(), &lists));
+        let wrong_lengths = compared(&question, tables.clone(), &lists);
         question.board = draw.board_out_of_range(question.board);
-        tally.count(compared(&question, tables, &lists));
+        let out_of_range = compared(&question, tables, &lists);
+        assert_eq!([over, wrong_lengths, out_of_range], [5, 2, 1]);
+        tally.count(over);
     }
 }
 
@@ -279,6 +281,7 @@ fn cases() -> Vec<Case> {
         (vec![WriteBack(0, 5)], vec![], Err((8, 0))),
         (vec![Fetch(0, 1), Fetch(0, 1)], vec![], Err((23, 1))),
         (vec![Fetch(0, 1), Fetch(0, 3)], vec![], Err((23, 1))),
+        (vec![Fetch(0, 1), Fetch(0, 5)], vec![], Err((8, 1))),
         (vec![Fetch(0, 1), Fetch(1, 3)], vec![], Ok(6)),
         (vec![Fetch(0, 1), Drop(0, 3)], vec![], Err((24, 1))),
         (vec![WriteBack(0, 0)], vec![], Err((24, 0))),

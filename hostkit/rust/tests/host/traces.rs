@@ -192,17 +192,16 @@ fn wrong_lengths() {
             line: 0,
         };
         assert_eq!((report, tables), (refused, before));
-        tally.count(2);
+        tally.count(lend::number(report.refusal));
     }
     tally.close("traces on wrong lengths", &[2]);
 }
 
-/// Lines that the grammar just lets through, and lines that it just does not.
-#[test]
-fn grammar() {
-    let mut draw = Draw::for_test("grammar");
+/// Lines that the grammar just lets through, and lines that it just does not: a trace, and the
+/// refusal and the line that end it.
+fn grammar_cases() -> Vec<(String, u32, u32)> {
     let wide = |width: usize| format!("0 0 {}", "x".repeat(width - 4));
-    let cases: Vec<(String, u32, u32)> = vec![
+    vec![
         ("".into(), 0, 0),
         ("\n".into(), 6, 1),
         ("0 0".into(), 0, 0),
@@ -233,8 +232,13 @@ fn grammar() {
         (wide(80) + "\r\n", 6, 1),
         (wide(80) + "\n" + &wide(80) + "\n", 0, 0),
         (wide(80) + "\n" + &wide(81) + "\n0 0", 6, 2),
-    ];
-    for (text, refusal, line) in cases {
+    ]
+}
+
+#[test]
+fn grammar() {
+    let mut draw = Draw::for_test("grammar");
+    for (text, refusal, line) in grammar_cases() {
         let counted = count(text.as_bytes());
         assert_eq!((counted.refusal, counted.line), (refusal, line), "{text:?}");
         compared(&mut draw, text.as_bytes(), &counted);
