@@ -1,7 +1,7 @@
-// The real entries, asked over tables that lie in one list of cells: each table is copied to an array of its own, a part
-// of which, as long as the case wants it, is lent.
+// The entries, called over tables that stand in one list of cells: each table is copied to an array of its own, a part of
+// which, as long as the case wants it, is lent.
+use crate::cells::copy_part;
 use crate::cells::get;
-use crate::cells::put;
 use crate::cells::sum;
 use crate::lent;
 use crate::lent::Lengths;
@@ -26,20 +26,12 @@ fn at_most(n: u32, most: usize) -> usize
 
 // The n cells of a table that begins at `base` go to `to`.
 fn lend(cells: &[u32], base: u32, to: &mut [u32], n: u32) {
-    let mut k = 0;
-    while k < n {
-        put(to, k, get(cells, sum(base, k)));
-        k += 1;
-    }
+    copy_part(cells, base, to, 0, n);
 }
 
 // The n cells of `from` go back to the table that begins at `base`.
 fn back(from: &[u32], cells: &mut [u32], base: u32, n: u32) {
-    let mut k = 0;
-    while k < n {
-        put(cells, sum(base, k), get(from, k));
-        k += 1;
-    }
+    copy_part(from, 0, cells, base, n);
 }
 
 fn back_lines(from: &[u32; 520], cells: &mut [u32], base: u32, n: u32) {

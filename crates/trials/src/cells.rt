@@ -33,13 +33,18 @@ pub(crate) fn wipe(cells: &mut [u32], first: u32, n: u32) {
     }
 }
 
-// The first n cells of `to` become those of `from`.
-pub(crate) fn copy(from: &[u32], to: &mut [u32], n: u32) {
+// The n cells of `to` from b on become those of `from` from a on.
+pub(crate) fn copy_part(from: &[u32], a: u32, to: &mut [u32], b: u32, n: u32) {
     let mut k = 0;
     while k < n {
-        put(to, k, get(from, k));
+        put(to, sum(b, k), get(from, sum(a, k)));
         k += 1;
     }
+}
+
+// The first n cells of `to` become those of `from`.
+pub(crate) fn copy(from: &[u32], to: &mut [u32], n: u32) {
+    copy_part(from, 0, to, 0, n);
 }
 
 // The first of n cells in which the two differ; n if none.

@@ -5,9 +5,9 @@ use crate::cells::product;
 use crate::cells::put;
 use crate::cells::remainder;
 use crate::cells::sum;
-use crate::desk::draw;
-use crate::desk::word;
 use crate::lent;
+use crate::state::draw;
+use crate::state::word;
 use protocol::Setup;
 
 // The first slot from k on that is not empty, in turn; k if all are.
@@ -72,12 +72,12 @@ fn damage_cell(cells: &mut [u32], setup: Setup, k: u32, how: u32, x: u32) {
 }
 
 // Damage to one line, held or empty.
-fn damage(desk: &mut [u32], cells: &mut [u32], setup: Setup) {
+fn damage(state: &mut [u32], cells: &mut [u32], setup: Setup) {
     let slots = lent::slots(setup);
-    let any = draw(desk, slots);
-    let seek = draw(desk, 4);
-    let how = draw(desk, 11);
-    let x = word(desk);
+    let any = draw(state, slots);
+    let seek = draw(state, 4);
+    let how = draw(state, 11);
+    let x = word(state);
     let held = held_slot(cells, slots, any);
     if seek == 0 {
         damage_cell(cells, setup, any, how, x);
@@ -92,10 +92,10 @@ fn damage(desk: &mut [u32], cells: &mut [u32], setup: Setup) {
 }
 
 // Once in a while the tables are damaged.
-pub(crate) fn perhaps_damage(desk: &mut [u32], cells: &mut [u32], setup: Setup) {
-    let roll = draw(desk, 4);
+pub(crate) fn perhaps_damage(state: &mut [u32], cells: &mut [u32], setup: Setup) {
+    let roll = draw(state, 4);
     if roll != 0 {
         return;
     }
-    damage(desk, cells, setup);
+    damage(state, cells, setup);
 }

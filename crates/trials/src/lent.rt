@@ -169,7 +169,7 @@ fn load_marked(facts: &mut [u32], tables: &[u32], k: u32, i: u32, b: u32, p: u32
     0
 }
 
-// What slot k shows of block b, in its proper line, becomes a fact; the faults seen by the way.
+// What slot k shows of block b, in its proper line, becomes a fact: its faults.
 fn load_copy(facts: &mut [u32], tables: &[u32], setup: Setup, k: u32, b: u32) -> u32 {
     let i = quotient(k, setup.lines);
     set_counter(facts, i, b, get(tables, sum(COUNTERS, k)));
@@ -289,7 +289,7 @@ pub(crate) fn lay_lines(facts: &[u32], tables: &mut [u32], setup: Setup) {
     lay_caches(facts, tables, setup);
 }
 
-// The word o of slot k: 0 in an empty line.
+// Word w of the words of all lines: 0 in an empty line.
 fn lay_word(facts: &[u32], tables: &mut [u32], p: u32, w: u32) {
     let k = quotient(w, p);
     if get(tables, sum(COUNTERS, k)) == 0 {

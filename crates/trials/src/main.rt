@@ -1,10 +1,9 @@
-// Random and chosen cases through the real entries, beside the model. Each answer and each lent buffer is compared.
+// Random and chosen cases through starting, a look, the count of a trace, and the run and the price over numbers, beside
+// the model. Each answer and each lent buffer is compared.
 mod asked;
 mod board;
-mod boards;
 mod cells;
 mod damage;
-mod desk;
 mod din_lines;
 mod lent;
 mod lists;
@@ -12,23 +11,25 @@ mod price_trials;
 mod rival;
 mod run_trials;
 mod served;
+mod setups;
+mod state;
 mod trace_trials;
 
 use crate::run_trials::Series;
 use protocol::Account;
 use protocol::Setup;
 
-fn starts(desk: &mut [u32], wanted: &mut [u32], real: &mut [u32], n: u32) {
+fn starts(state: &mut [u32], wanted: &mut [u32], real: &mut [u32], n: u32) {
     let mut k = 0;
     while k < n {
-        run_trials::start_case(desk, wanted, real, k);
+        run_trials::start_case(state, wanted, real, k);
         k += 1;
     }
 }
 
 // The runs of a list go on over the tables and the account that the last one left.
 fn series(
-    desk: &mut [u32],
+    state: &mut [u32],
     requests: &mut [u32],
     facts: &mut [u32],
     wanted: &mut [u32],
@@ -52,13 +53,13 @@ fn series(
     };
     let mut k = 0;
     while k < n {
-        at = run_trials::run_case(desk, requests, facts, wanted, real, at, k);
+        at = run_trials::run_case(state, requests, facts, wanted, real, at, k);
         k += 1;
     }
 }
 
 fn prices(
-    desk: &mut [u32],
+    state: &mut [u32],
     entries: &mut [u32],
     requests: &mut [u32],
     facts: &mut [u32],
@@ -68,13 +69,13 @@ fn prices(
 ) {
     let mut k = 0;
     while k < n {
-        price_trials::price_case(desk, entries, requests, facts, wanted, real, k);
+        price_trials::price_case(state, entries, requests, facts, wanted, real, k);
         k += 1;
     }
 }
 
 fn traces(
-    desk: &mut [u32],
+    state: &mut [u32],
     bytes: &mut [u8],
     facts: &mut [u32],
     wanted: &mut [u32],
@@ -83,35 +84,35 @@ fn traces(
 ) {
     let mut k = 0;
     while k < n {
-        trace_trials::trace_case(desk, bytes, facts, wanted, real, k);
+        trace_trials::trace_case(state, bytes, facts, wanted, real, k);
         k += 1;
     }
 }
 
 fn all(
-    desk: &mut [u32],
+    state: &mut [u32],
     entries: &mut [u32],
     requests: &mut [u32],
     facts: &mut [u32],
     wanted: &mut [u32],
     real: &mut [u32],
 ) {
-    starts(desk, wanted, real, 4000);
-    series(desk, requests, facts, wanted, real, 24000);
-    prices(desk, entries, requests, facts, wanted, real, 16000);
+    starts(state, wanted, real, 4000);
+    series(state, requests, facts, wanted, real, 24000);
+    prices(state, entries, requests, facts, wanted, real, 16000);
 }
 
 fn main() {
-    let mut desk = [0u32; 256];
+    let mut state = [0u32; 256];
     let mut entries = [0u32; 1200];
     let mut requests = [0u32; 260];
     let mut facts = [0u32; 10496];
     let mut wanted = [0u32; 14128];
     let mut real = [0u32; 14128];
     let mut bytes = [0u8; 4096];
-    desk::open_with(&mut desk, 20261115);
+    state::set_seed(&mut state, 20261115);
     all(
-        &mut desk,
+        &mut state,
         &mut entries,
         &mut requests,
         &mut facts,
@@ -119,12 +120,12 @@ fn main() {
         &mut real,
     );
     traces(
-        &mut desk,
+        &mut state,
         &mut bytes,
         &mut facts,
         &mut wanted,
         &mut real,
         6000,
     );
-    desk::print_all(&desk);
+    state::print_all(&state);
 }

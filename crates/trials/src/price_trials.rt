@@ -14,9 +14,6 @@ use crate::cells::put;
 use crate::cells::quotient;
 use crate::cells::remainder;
 use crate::cells::sum;
-use crate::desk;
-use crate::desk::draw;
-use crate::desk::word;
 use crate::lent;
 use crate::lent::Lengths;
 use crate::lists;
@@ -26,6 +23,9 @@ use crate::rival::Play;
 use crate::run_trials;
 use crate::run_trials::Judged;
 use crate::run_trials::Plan;
+use crate::state;
+use crate::state::draw;
+use crate::state::word;
 use protocol::Account;
 use protocol::PriceAnswer;
 use protocol::Setup;
@@ -64,10 +64,10 @@ struct Style {
 }
 
 // A legal entry that no request asks for.
-fn idle_move(desk: &mut [u32], facts: &[u32], setup: Setup) -> Move {
-    let i = draw(desk, setup.processors);
-    let b = draw(desk, setup.blocks);
-    let roll = draw(desk, 3);
+fn idle_move(state: &mut [u32], facts: &[u32], setup: Setup) -> Move {
+    let i = draw(state, setup.processors);
+    let b = draw(state, setup.blocks);
+    let roll = draw(state, 3);
     if counter(facts, i, b) == 0 {
         return step_toward(facts, setup, i, b);
     }
@@ -105,12 +105,12 @@ fn held_block(facts: &[u32], i: u32, b: u32) -> u32 {
 
 // An entry that may meet any condition: a block that is marked is dropped, a line that is in use is fetched into, or
 // the numbers are drawn from a little more than their range, or from far out of it.
-fn wild_move(desk: &mut [u32], facts: &[u32], setup: Setup) -> Move {
-    let kind = draw(desk, 6);
-    let i = draw(desk, sum(setup.processors, 1));
-    let b = draw(desk, sum(setup.blocks, 2));
-    let far = word(desk);
-    let roll = draw(desk, 10);
+fn wild_move(state: &mut [u32], facts: &[u32], setup: Setup) -> Move {
+    let kind = draw(state, 6);
+    let i = draw(state, sum(setup.processors, 1));
+    let b = draw(state, sum(setup.blocks, 2));
+    let far = word(state);
+    let roll = draw(state, 10);
     let marked = marked_block(facts, b);
     let held = held_block(facts, i, b);
     match roll {
@@ -125,7 +125,7 @@ fn wild_move(desk: &mut [u32], facts: &[u32], setup: Setup) -> Move {
 
 // The entry that serves the next request: its completion, or a step toward it.
 fn serving_move(
-    desk: &mut [u32],
+    state: &mut [u32],
     facts: &[u32],
     setup: Setup,
     requests: &[u32],
@@ -135,7 +135,7 @@ fn serving_move(
     let i = get(requests, first);
     let write = get(requests, sum(first, 1)) == 1;
     let b = quotient(get(requests, sum(first, 2)), setup.words);
-    let roll = draw(desk, 3);
+    let roll = draw(state, 3);
     if i >= setup.processors || b >= setup.blocks {
         return move_of(rival::COMPLETE, 0, 0);
     }
@@ -150,7 +150,7 @@ fn serving_move(
 
 // The next entry of a schedule for n requests.
 fn next_move(
-    desk: &mut [u32],
+    state: &mut [u32],
     facts: &[u32],
     setup: Setup,
     requests: &[u32],
@@ -158,18 +158,18 @@ fn next_move(
     done: u32,
     style: Style,
 ) -> Move {
-    let wild = draw(desk, style.wild);
-    let idle = draw(desk, style.idle);
+    let wild = draw(state, style.wild);
+    let idle = draw(state, style.idle);
     if style.wild > 0 && wild == 0 {
-        return wild_move(desk, facts, setup);
+        return wild_move(state, facts, setup);
     }
     if done >= n {
-        return idle_move(desk, facts, setup);
+        return idle_move(state, facts, setup);
     }
     if style.idle > 0 && idle == 0 {
-        return idle_move(desk, facts, setup);
+        return idle_move(state, facts, setup);
     }
-    serving_move(desk, facts, setup, requests, done)
+    serving_move(state, facts, setup, requests, done)
 }
 
 // Writes an entry down and plays it.
@@ -195,7 +195,7 @@ fn push(
 
 // One entry more, or once all requests are completed mostly none.
 fn extend(
-    desk: &mut [u32],
+    state: &mut [u32],
     facts: &mut [u32],
     entries: &mut [u32],
     setup: Setup,
@@ -205,17 +205,17 @@ fn extend(
     at: Draft,
 ) -> Draft {
     let play = at.play;
-    let more = draw(desk, 8);
+    let more = draw(state, 8);
     if play.done >= n && more != 0 {
         return at;
     }
-    let entry = next_move(desk, facts, setup, requests, n, play.done, style);
+    let entry = next_move(state, facts, setup, requests, n, play.done, style);
     push(facts, entries, setup, requests, n, entry, at)
 }
 
 // A schedule for n requests, of at most `turns` entries: how many it has.
 fn build(
-    desk: &mut [u32],
+    state: &mut [u32],
     facts: &mut [u32],
     entries: &mut [u32],
     setup: Setup,
@@ -231,7 +231,7 @@ fn build(
     };
     let mut t = 0;
     while t < turns {
-        at = extend(desk, facts, entries, setup, requests, n, style, at);
+        at = extend(state, facts, entries, setup, requests, n, style, at);
         t += 1;
     }
     at.count
@@ -242,39 +242,39 @@ fn answers_differ(play: Play, answer: PriceAnswer) -> u32 {
     match answer {
         PriceAnswer::Accepted(cost) => {
             if play.refusal != 0 {
-                return desk::REFUSAL;
+                return state::REFUSAL;
             }
             if play.cost != cost {
-                return desk::COST;
+                return state::COST;
             }
             0
         }
         PriceAnswer::Refused(number, place) => {
             if play.refusal != number {
-                return desk::REFUSAL;
+                return state::REFUSAL;
             }
             if play.place as usize != place {
-                return desk::PLACE;
+                return state::PLACE;
             }
             0
         }
     }
 }
 
-// The price in the model and in truth.
+// The price in the model and by the entry.
 fn price_both(
     facts: &mut [u32],
     wanted: &mut [u32],
     real: &mut [u32],
-    board: Board,
+    question: Question,
     entries: &[u32],
     count: u32,
     requests: &[u32],
 ) -> Priced {
-    let setup = board.setup;
-    let lengths = board.lengths;
-    let n = board.n;
-    let spare = board.spare;
+    let setup = question.setup;
+    let lengths = question.lengths;
+    let n = question.n;
+    let spare = question.spare;
     copy(real, wanted, lent::CELLS);
     let play = rival::price(facts, wanted, setup, lengths, entries, count, requests, n);
     let answer = asked::price(
@@ -291,7 +291,7 @@ fn price_both(
         if run_trials::buffers_differ(real, wanted) {
             return Priced {
                 play: play,
-                what: desk::BUFFERS,
+                what: state::BUFFERS,
             };
         }
     }
@@ -336,21 +336,35 @@ fn fresh_account() -> Account {
     }
 }
 
-// All n requests were taken, and twice the schedule's cost is at least the engine's bill.
-fn note_held(desk: &mut [u32], judged: Judged, n: u32, cost: u32, case: u32) {
-    let account = judged.account;
-    let bill = run_trials::cycles(account);
-    run_trials::note_run(desk, judged, fresh_account(), case);
-    desk::add(desk, desk::COMPARED, 1);
-    desk::add(desk, desk::DEARER, (bill > cost) as u32);
-    if bill > product(cost, 2) || account.requests != n {
-        desk::judge(desk, desk::PRICE, case, desk::FACTOR);
+// All n requests are taken, and twice the schedule's cost is at least the engine's bill: what is otherwise; 0 if nothing.
+fn bound_differs(taken: u32, n: u32, bill: u32, cost: u32) -> u32 {
+    if taken != n {
+        return state::TAKEN;
     }
+    if bill > product(cost, 2) {
+        return state::FACTOR;
+    }
+    0
 }
 
-fn pick_style(desk: &mut [u32]) -> Style {
-    let roll = draw(desk, 8);
-    let idle = product(draw(desk, 2), 5);
+// The engine's bill for n requests beside the cost of a legal schedule for them.
+fn note_compared(state: &mut [u32], judged: Judged, n: u32, cost: u32, case: u32) {
+    let account = judged.account;
+    let bill = run_trials::cycles(account);
+    run_trials::note_run(state, judged, fresh_account(), case);
+    state::add(state, state::COMPARED, 1);
+    state::add(state, state::CHEAPER, (bill > cost) as u32);
+    state::judge(
+        state,
+        state::PRICE,
+        case,
+        bound_differs(account.requests, n, bill, cost),
+    );
+}
+
+fn pick_style(state: &mut [u32]) -> Style {
+    let roll = draw(state, 8);
+    let idle = product(draw(state, 2), 5);
     match roll {
         0 | 1 => Style { wild: 12, idle: 5 },
         2 | 3 => Style {
@@ -365,9 +379,9 @@ fn pick_style(desk: &mut [u32]) -> Style {
 }
 
 // The turns in which a schedule for n requests is built: enough as a rule.
-fn pick_turns(desk: &mut [u32], n: u32) -> u32 {
-    let roll = draw(desk, 10);
-    let few = draw(desk, sum(product(n, 2), 1));
+fn pick_turns(state: &mut [u32], n: u32) -> u32 {
+    let roll = draw(state, 10);
+    let few = draw(state, sum(product(n, 2), 1));
     if roll == 0 {
         return few;
     }
@@ -376,30 +390,30 @@ fn pick_turns(desk: &mut [u32], n: u32) -> u32 {
 
 // A list of requests, and a schedule for it: its entries.
 fn pick_schedule(
-    desk: &mut [u32],
+    state: &mut [u32],
     entries: &mut [u32],
     requests: &mut [u32],
     facts: &mut [u32],
     setup: Setup,
     n: u32,
 ) -> u32 {
-    let style = pick_style(desk);
-    let turns = pick_turns(desk, n);
-    let tight = draw(desk, 6);
+    let style = pick_style(state);
+    let turns = pick_turns(state, n);
+    let tight = draw(state, 6);
     if tight == 0 && setup.processors > 1 {
         let lean = Style {
             wild: style.wild,
             idle: 0,
         };
-        lists::tight_requests(desk, requests, setup.words, n);
-        return build(desk, facts, entries, setup, requests, n, lean, turns);
+        lists::tight_requests(state, requests, setup.words, n);
+        return build(state, facts, entries, setup, requests, n, lean, turns);
     }
-    lists::pick_requests(desk, requests, setup, n, product(style.wild, 10));
-    build(desk, facts, entries, setup, requests, n, style, turns)
+    lists::pick_requests(state, requests, setup, n, product(style.wild, 10));
+    build(state, facts, entries, setup, requests, n, style, turns)
 }
 
 // What a schedule is drawn and priced for. `right` may be another setup than the one that the pricer is given.
-struct Board {
+struct Question {
     right: Setup,
     setup: Setup,
     lengths: Lengths,
@@ -407,14 +421,14 @@ struct Board {
     spare: u32,
 }
 
-fn pick_board(desk: &mut [u32]) -> Board {
-    let right = run_trials::new_board(desk);
-    let n = draw(desk, 61);
-    let spare = draw(desk, 4);
-    let lending = run_trials::pick_lending(desk, right, n, 30, 20);
+fn pick_question(state: &mut [u32]) -> Question {
+    let right = run_trials::new_setup(state);
+    let n = draw(state, 61);
+    let spare = draw(state, 4);
+    let lending = run_trials::pick_lending(state, right, n, 30, 20);
     let setup = lending.setup;
     let lengths = lending.lengths;
-    Board {
+    Question {
         right: right,
         setup: setup,
         lengths: lengths,
@@ -423,31 +437,31 @@ fn pick_board(desk: &mut [u32]) -> Board {
     }
 }
 
-// A schedule of `count` entries is priced, and if it is legal the engine's bill is held against its cost.
+// A schedule of `count` entries is priced, and if it is legal the engine's bill is compared with its cost.
 fn judge_schedule(
-    desk: &mut [u32],
+    state: &mut [u32],
     entries: &[u32],
     count: u32,
     requests: &[u32],
     facts: &mut [u32],
     wanted: &mut [u32],
     real: &mut [u32],
-    board: Board,
+    question: Question,
     case: u32,
 ) {
-    let right = board.right;
-    let priced = price_both(facts, wanted, real, board, entries, count, requests);
+    let right = question.right;
+    let priced = price_both(facts, wanted, real, question, entries, count, requests);
     let play = priced.play;
-    note_price(desk, priced, case);
+    note_price(state, priced, case);
     if play.refusal != 0 {
         return;
     }
-    let judged = run_fresh(requests, facts, wanted, real, right, board.n);
-    note_held(desk, judged, board.n, play.cost, case);
+    let judged = run_fresh(requests, facts, wanted, real, right, question.n);
+    note_compared(state, judged, question.n, play.cost, case);
 }
 
 pub(crate) fn price_case(
-    desk: &mut [u32],
+    state: &mut [u32],
     entries: &mut [u32],
     requests: &mut [u32],
     facts: &mut [u32],
@@ -455,24 +469,24 @@ pub(crate) fn price_case(
     real: &mut [u32],
     case: u32,
 ) {
-    let board = pick_board(desk);
-    let right = board.right;
-    let count = pick_schedule(desk, entries, requests, facts, right, board.n);
+    let question = pick_question(state);
+    let right = question.right;
+    let count = pick_schedule(state, entries, requests, facts, right, question.n);
     judge_schedule(
-        desk,
+        state,
         entries,
         count,
         requests,
         facts,
         wanted,
         real,
-        board,
+        question,
         case,
     );
 }
 
-fn note_price(desk: &mut [u32], priced: Priced, case: u32) {
+fn note_price(state: &mut [u32], priced: Priced, case: u32) {
     let play = priced.play;
-    desk::note(desk, desk::PRICE, play.refusal);
-    desk::judge(desk, desk::PRICE, case, priced.what);
+    state::note(state, state::PRICE, play.refusal);
+    state::judge(state, state::PRICE, case, priced.what);
 }

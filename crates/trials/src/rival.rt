@@ -248,7 +248,8 @@ fn lengths_wrong(setup: Setup, lengths: Lengths) -> bool {
     lengths.marks != n
 }
 
-// The price of a schedule of `count` entries for n requests. The lent tables become what they should be after it.
+// The price of a schedule of `count` entries for n requests, both too few for 5. The lent tables become what they should
+// be after it.
 pub(crate) fn price(
     facts: &mut [u32],
     tables: &mut [u32],

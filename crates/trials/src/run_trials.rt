@@ -1,7 +1,6 @@
 // Starting, runs and looks.
 use crate::asked;
 use crate::asked::Shown;
-use crate::boards;
 use crate::cells::copy;
 use crate::cells::first_difference;
 use crate::cells::get;
@@ -11,14 +10,15 @@ use crate::cells::put;
 use crate::cells::quotient;
 use crate::cells::sum;
 use crate::damage;
-use crate::desk;
-use crate::desk::draw;
-use crate::desk::word;
 use crate::lent;
 use crate::lent::Lengths;
 use crate::lists;
 use crate::served;
 use crate::served::Outcome;
+use crate::setups;
+use crate::state;
+use crate::state::draw;
+use crate::state::word;
 use numbers::Ran;
 use protocol::Account;
 use protocol::Setup;
@@ -43,31 +43,32 @@ pub struct Lending {
     pub lengths: Lengths,
 }
 
-// A board for a new case.
-pub(crate) fn new_board(desk: &mut [u32]) -> Setup {
-    desk::begin(desk);
-    boards::pick_setup(desk)
+// A right setup for a new case.
+pub(crate) fn new_setup(state: &mut [u32]) -> Setup {
+    state::begin(state);
+    setups::pick_setup(state)
 }
 
-// A board and its lengths for a list of n requests: the setup is wrong once in so many times, and a length.
+// A setup and its lengths for a list of n requests: the setup is wrong once in `setup_every` times, a length once in
+// `length_every` times.
 pub(crate) fn pick_lending(
-    desk: &mut [u32],
+    state: &mut [u32],
     right: Setup,
     n: u32,
-    setups: u32,
-    lengths: u32,
+    setup_every: u32,
+    length_every: u32,
 ) -> Lending {
-    let setup = boards::perhaps_wrong_setup(desk, right, setups);
-    let wrong = boards::perhaps_wrong_lengths(desk, lent::right_lengths(right, n), lengths);
+    let setup = setups::perhaps_wrong_setup(state, right, setup_every);
+    let wrong = setups::perhaps_wrong_lengths(state, lent::right_lengths(right, n), length_every);
     Lending {
         setup: setup,
         lengths: wrong,
     }
 }
 
-// Starts the tables, in the model and in truth.
+// Starts the tables, in the model and by the entry.
 fn start_both(
-    desk: &mut [u32],
+    state: &mut [u32],
     wanted: &mut [u32],
     real: &mut [u32],
     setup: Setup,
@@ -77,28 +78,28 @@ fn start_both(
     copy(real, wanted, lent::CELLS);
     let expected = lent::start(wanted, setup, lengths);
     let answer = asked::start(setup, lengths, real);
-    desk::note(desk, desk::START, answer);
+    state::note(state, state::START, answer);
     if answer != expected {
-        desk::judge(desk, desk::START, case, desk::REFUSAL);
+        state::judge(state, state::START, case, state::REFUSAL);
         return;
     }
     if buffers_differ(real, wanted) {
-        desk::judge(desk, desk::START, case, desk::BUFFERS);
+        state::judge(state, state::START, case, state::BUFFERS);
     }
 }
 
 // The first sixteen cases have each number at 0, 1, its largest and one more; the others are drawn.
-fn start_setup(desk: &mut [u32], setup: Setup, case: u32) -> Setup {
+fn start_setup(state: &mut [u32], setup: Setup, case: u32) -> Setup {
     let which = case / 4 % 4;
-    let wrong = boards::perhaps_wrong_setup(desk, setup, 6);
+    let wrong = setups::perhaps_wrong_setup(state, setup, 6);
     if case >= 16 {
         return wrong;
     }
     match case % 4 {
-        0 => boards::with_number(setup, which, 0),
-        1 => boards::with_number(setup, which, 1),
-        2 => boards::with_number(setup, which, boards::most(which)),
-        _ => boards::with_number(setup, which, sum(boards::most(which), 1)),
+        0 => setups::with_number(setup, which, 0),
+        1 => setups::with_number(setup, which, 1),
+        2 => setups::with_number(setup, which, setups::most(which)),
+        _ => setups::with_number(setup, which, sum(setups::most(which), 1)),
     }
 }
 
@@ -111,22 +112,22 @@ fn lengths_for(setup: Setup, other: Setup) -> Lengths {
 }
 
 // A setup and lengths for starting.
-fn pick_start(desk: &mut [u32], case: u32) -> Lending {
-    let right = new_board(desk);
-    let setup = start_setup(desk, right, case);
-    let lengths = boards::perhaps_wrong_lengths(desk, lengths_for(setup, right), 4);
+fn pick_start(state: &mut [u32], case: u32) -> Lending {
+    let right = new_setup(state);
+    let setup = start_setup(state, right, case);
+    let lengths = setups::perhaps_wrong_lengths(state, lengths_for(setup, right), 4);
     Lending {
         setup: setup,
         lengths: lengths,
     }
 }
 
-pub(crate) fn start_case(desk: &mut [u32], wanted: &mut [u32], real: &mut [u32], case: u32) {
-    let start = pick_start(desk, case);
+pub(crate) fn start_case(state: &mut [u32], wanted: &mut [u32], real: &mut [u32], case: u32) {
+    let start = pick_start(state, case);
     let setup = start.setup;
     let lengths = start.lengths;
-    scatter(real, word(desk));
-    start_both(desk, wanted, real, setup, lengths, case);
+    scatter(real, word(state));
+    start_both(state, wanted, real, setup, lengths, case);
 }
 
 // A list of runs over the same tables and account, and how many are left of it.
@@ -164,17 +165,17 @@ fn answers_differ(outcome: Outcome, ran: Ran) -> u32 {
     let answer = ran.answer;
     let account = ran.account;
     if answer.refusal != outcome.refusal {
-        return desk::REFUSAL;
+        return state::REFUSAL;
     }
     if answer.place != outcome.place as usize {
-        return desk::PLACE;
+        return state::PLACE;
     }
     if answer.taken != outcome.taken as usize {
-        return desk::TAKEN;
+        return state::TAKEN;
     }
     let expected = outcome.account;
     if accounts_differ(account, expected) {
-        return desk::ACCOUNT;
+        return state::ACCOUNT;
     }
     0
 }
@@ -186,7 +187,7 @@ pub struct Judged {
     pub what: u32,
 }
 
-// A run in the model and in truth.
+// A run in the model and by the entry.
 pub(crate) fn run_both(
     plan: Plan,
     requests: &[u32],
@@ -208,7 +209,7 @@ pub(crate) fn run_both(
             return Judged {
                 account: after,
                 refusal: outcome.refusal,
-                what: desk::BUFFERS,
+                what: state::BUFFERS,
             };
         }
     }
@@ -231,8 +232,8 @@ struct Sight {
     block: u32,
 }
 
-// A look at a block of a cache, in the model and in truth.
-fn look_both(desk: &mut [u32], cells: &[u32], sight: Sight, case: u32) {
+// A look at a block of a cache, in the model and by the entry.
+fn look_both(state: &mut [u32], cells: &[u32], sight: Sight, case: u32) {
     let setup = sight.setup;
     let lengths = sight.lengths;
     let i = sight.processor;
@@ -240,10 +241,10 @@ fn look_both(desk: &mut [u32], cells: &[u32], sight: Sight, case: u32) {
     let first = lent::words_at(setup, i, b);
     let seen = asked::look(setup, lengths, i, b, cells, first);
     let shows = lent::shows(cells, setup, lengths, i, b);
-    desk::note(desk, desk::LOOK, shows as u32);
-    desk::judge(
-        desk,
-        desk::LOOK,
+    state::note(state, state::LOOK, shows as u32);
+    state::judge(
+        state,
+        state::LOOK,
         case,
         look_differs(seen, shows, setup.words),
     );
@@ -253,29 +254,29 @@ fn look_both(desk: &mut [u32], cells: &[u32], sight: Sight, case: u32) {
 fn look_differs(seen: Shown, shows: bool, p: u32) -> u32 {
     if !shows {
         if seen.count != 0 {
-            return desk::SHOWN;
+            return state::SHOWN;
         }
         return 0;
     }
     if seen.count != p as usize {
-        return desk::SHOWN;
+        return state::SHOWN;
     }
     if seen.unlike != 0 {
-        return desk::SHOWN;
+        return state::SHOWN;
     }
     0
 }
 
 // A look: at the block that a line names, or at any.
-fn pick_look(desk: &mut [u32], cells: &[u32], right: Setup) -> Sight {
-    let lending = pick_lending(desk, right, 0, 20, 10);
+fn pick_look(state: &mut [u32], cells: &[u32], right: Setup) -> Sight {
+    let lending = pick_lending(state, right, 0, 20, 10);
     let setup = lending.setup;
     let lengths = lending.lengths;
     let slots = lent::slots(right);
-    let k = damage::held_slot(cells, slots, draw(desk, slots));
-    let any = draw(desk, sum(right.blocks, 2));
-    let i = draw(desk, sum(right.processors, 1));
-    let roll = draw(desk, 3);
+    let k = damage::held_slot(cells, slots, draw(state, slots));
+    let any = draw(state, sum(right.blocks, 2));
+    let i = draw(state, sum(right.processors, 1));
+    let roll = draw(state, 3);
     if roll == 0 {
         return Sight {
             setup: setup,
@@ -292,9 +293,9 @@ fn pick_look(desk: &mut [u32], cells: &[u32], right: Setup) -> Sight {
     }
 }
 
-fn look_case(desk: &mut [u32], cells: &[u32], right: Setup, case: u32) {
-    let sight = pick_look(desk, cells, right);
-    look_both(desk, cells, sight, case);
+fn look_case(state: &mut [u32], cells: &[u32], right: Setup, case: u32) {
+    let sight = pick_look(state, cells, right);
+    look_both(state, cells, sight, case);
 }
 
 // Main memory may hold anything; the started caches are empty.
@@ -306,11 +307,11 @@ fn fill_memory(cells: &mut [u32], n: u32, from: u32) {
     }
 }
 
-// A new list: its board, its account, and how many runs it has.
-fn pick_series(desk: &mut [u32]) -> Series {
-    let setup = boards::pick_setup(desk);
-    let account = boards::pick_account(desk, setup.words);
-    let left = draw(desk, 8);
+// A new list: its setup, its account, and how many runs it has.
+fn pick_series(state: &mut [u32]) -> Series {
+    let setup = setups::pick_setup(state);
+    let account = setups::pick_account(state, setup.words);
+    let left = draw(state, 8);
     Series {
         setup: setup,
         account: account,
@@ -319,11 +320,11 @@ fn pick_series(desk: &mut [u32]) -> Series {
 }
 
 // The tables are started, whatever they held, and main memory is filled.
-fn begin_tables(desk: &mut [u32], wanted: &mut [u32], real: &mut [u32], setup: Setup, case: u32) {
-    let from = word(desk);
+fn begin_tables(state: &mut [u32], wanted: &mut [u32], real: &mut [u32], setup: Setup, case: u32) {
+    let from = word(state);
     scatter(real, from);
     start_both(
-        desk,
+        state,
         wanted,
         real,
         setup,
@@ -335,30 +336,30 @@ fn begin_tables(desk: &mut [u32], wanted: &mut [u32], real: &mut [u32], setup: S
 
 // A list goes on, or a new one begins.
 fn next_series(
-    desk: &mut [u32],
+    state: &mut [u32],
     wanted: &mut [u32],
     real: &mut [u32],
     at: Series,
     case: u32,
 ) -> Series {
-    desk::begin(desk);
+    state::begin(state);
     if at.left > 0 {
         return at;
     }
-    let next = pick_series(desk);
+    let next = pick_series(state);
     let setup = next.setup;
-    begin_tables(desk, wanted, real, setup, case);
+    begin_tables(state, wanted, real, setup, case);
     next
 }
 
 // The next run of a list: perhaps with a wrong length, or at a wrong setup.
-fn pick_plan(desk: &mut [u32], requests: &mut [u32], at: Series) -> Plan {
+fn pick_plan(state: &mut [u32], requests: &mut [u32], at: Series) -> Plan {
     let right = at.setup;
     let account = at.account;
-    let n = draw(desk, 61);
-    let spare = draw(desk, 4);
-    lists::pick_requests(desk, requests, right, n, 100);
-    let lending = pick_lending(desk, right, n, 24, 12);
+    let n = draw(state, 61);
+    let spare = draw(state, 4);
+    lists::pick_requests(state, requests, right, n, 100);
+    let lending = pick_lending(state, right, n, 24, 12);
     let setup = lending.setup;
     let lengths = lending.lengths;
     Plan {
@@ -371,24 +372,28 @@ fn pick_plan(desk: &mut [u32], requests: &mut [u32], at: Series) -> Plan {
 }
 
 // What a run came to is noted.
-pub(crate) fn note_run(desk: &mut [u32], judged: Judged, before: Account, case: u32) {
+pub(crate) fn note_run(state: &mut [u32], judged: Judged, before: Account, case: u32) {
     let after = judged.account;
-    desk::note(desk, desk::RUN, judged.refusal);
-    desk::judge(desk, desk::RUN, case, judged.what);
-    desk::add(desk, desk::REQUESTS, less(after.requests, before.requests));
-    desk::add(desk, desk::CYCLES, less(cycles(after), cycles(before)));
+    state::note(state, state::RUN, judged.refusal);
+    state::judge(state, state::RUN, case, judged.what);
+    state::add(
+        state,
+        state::REQUESTS,
+        less(after.requests, before.requests),
+    );
+    state::add(state, state::CYCLES, less(cycles(after), cycles(before)));
 }
 
 // Two looks, before and after the tables are perhaps damaged.
-fn look_around(desk: &mut [u32], cells: &mut [u32], setup: Setup, case: u32) {
-    look_case(desk, cells, setup, case);
-    damage::perhaps_damage(desk, cells, setup);
-    look_case(desk, cells, setup, case);
+fn look_around(state: &mut [u32], cells: &mut [u32], setup: Setup, case: u32) {
+    look_case(state, cells, setup, case);
+    damage::perhaps_damage(state, cells, setup);
+    look_case(state, cells, setup, case);
 }
 
 // The next run of a list.
 fn run_next(
-    desk: &mut [u32],
+    state: &mut [u32],
     requests: &mut [u32],
     facts: &mut [u32],
     wanted: &mut [u32],
@@ -397,15 +402,15 @@ fn run_next(
     case: u32,
 ) -> Judged {
     let before = at.account;
-    let plan = pick_plan(desk, requests, at);
+    let plan = pick_plan(state, requests, at);
     let judged = run_both(plan, requests, facts, wanted, real);
-    note_run(desk, judged, before, case);
+    note_run(state, judged, before, case);
     judged
 }
 
 // One run of a list, and two looks at what it left. A list that was refused by 20 or 21 ends there.
 pub(crate) fn run_case(
-    desk: &mut [u32],
+    state: &mut [u32],
     requests: &mut [u32],
     facts: &mut [u32],
     wanted: &mut [u32],
@@ -413,11 +418,11 @@ pub(crate) fn run_case(
     last: Series,
     case: u32,
 ) -> Series {
-    let at = next_series(desk, wanted, real, last, case);
+    let at = next_series(state, wanted, real, last, case);
     let setup = at.setup;
-    let judged = run_next(desk, requests, facts, wanted, real, at, case);
+    let judged = run_next(state, requests, facts, wanted, real, at, case);
     let after = judged.account;
-    look_around(desk, real, setup, case);
+    look_around(state, real, setup, case);
     Series {
         setup: setup,
         account: after,

@@ -1,17 +1,17 @@
 // Din traces: right lines, and now and then a wrong one.
 use crate::asked;
-use crate::boards;
 use crate::cells::copy;
 use crate::cells::less;
 use crate::cells::sum;
-use crate::desk;
-use crate::desk::between;
-use crate::desk::draw;
 use crate::din_lines;
 use crate::din_lines::Reading;
 use crate::lent;
 use crate::lent::Lengths;
 use crate::run_trials;
+use crate::setups;
+use crate::state;
+use crate::state::between;
+use crate::state::draw;
 use trace_lines::Report;
 
 fn store(bytes: &mut [u8], at: u32, x: u32) {
@@ -97,10 +97,10 @@ const EMPTY: u32 = 8;
 const LONG: u32 = 9;
 
 // The byte of a label.
-fn pick_label(desk: &mut [u32], wrong: u32) -> u32 {
-    let label = draw(desk, 3);
-    let high = between(desk, 3, 9);
-    let letter = between(desk, 58, 120);
+fn pick_label(state: &mut [u32], wrong: u32) -> u32 {
+    let label = draw(state, 3);
+    let high = between(state, 3, 9);
+    let letter = between(state, 58, 120);
     if wrong == LETTER {
         return letter;
     }
@@ -110,14 +110,14 @@ fn pick_label(desk: &mut [u32], wrong: u32) -> u32 {
     sum(48, label)
 }
 
-fn pick_address(desk: &mut [u32], wrong: u32) -> u32 {
-    let i = draw(desk, 4) % 4;
-    let v = draw(desk, 256) % 256;
-    let near = draw(desk, 24) % 24;
-    let low = draw(desk, 4) % 4;
-    let roll = draw(desk, 2);
-    let other = between(desk, 4, 255) % 256;
-    let past = between(desk, 256, 4194303) % 4194304;
+fn pick_address(state: &mut [u32], wrong: u32) -> u32 {
+    let i = draw(state, 4) % 4;
+    let v = draw(state, 256) % 256;
+    let near = draw(state, 24) % 24;
+    let low = draw(state, 4) % 4;
+    let roll = draw(state, 2);
+    let other = between(state, 4, 255) % 256;
+    let past = between(state, 256, 4194303) % 4194304;
     if wrong == PROCESSOR {
         return other * 16777216 + v * 4;
     }
@@ -131,9 +131,9 @@ fn pick_address(desk: &mut [u32], wrong: u32) -> u32 {
 }
 
 // How many digits an address is written with: it may have zeros in front.
-fn pick_digits(desk: &mut [u32], address: u32, wrong: u32) -> u32 {
-    let short = between(desk, 1, 8);
-    let middle = between(desk, 3, 8);
+fn pick_digits(state: &mut [u32], address: u32, wrong: u32) -> u32 {
+    let short = between(state, 1, 8);
+    let middle = between(state, 3, 8);
     if wrong == NINE_DIGITS {
         return 9;
     }
@@ -150,12 +150,12 @@ fn pick_digits(desk: &mut [u32], address: u32, wrong: u32) -> u32 {
 }
 
 // What follows an address: nothing, a carriage return, or ignored text, up to a line of about 80 bytes.
-fn put_rest(desk: &mut [u32], bytes: &mut [u8], start: u32, at: u32, wrong: u32) -> u32 {
-    let roll = draw(desk, 10);
-    let n = draw(desk, 12);
-    let x = between(desk, 14, 255);
-    let width = between(desk, 79, 82);
-    let other = between(desk, 103, 126);
+fn put_rest(state: &mut [u32], bytes: &mut [u8], start: u32, at: u32, wrong: u32) -> u32 {
+    let roll = draw(state, 10);
+    let n = draw(state, 12);
+    let x = between(state, 14, 255);
+    let width = between(state, 79, 82);
+    let other = between(state, 103, 126);
     if wrong == OTHER_TEXT {
         return put_byte(bytes, at, other);
     }
@@ -179,9 +179,9 @@ fn put_text(bytes: &mut [u8], at: u32, gap: u32, x: u32, n: u32) -> u32 {
 }
 
 // The blanks and tabs after a label.
-fn put_blanks(desk: &mut [u32], bytes: &mut [u8], at: u32, wrong: u32) -> u32 {
-    let n = between(desk, 1, 3);
-    let tab = draw(desk, 4);
+fn put_blanks(state: &mut [u32], bytes: &mut [u8], at: u32, wrong: u32) -> u32 {
+    let n = between(state, 1, 3);
+    let tab = draw(state, 4);
     if wrong == NO_BLANK {
         return at;
     }
@@ -194,7 +194,7 @@ fn put_blanks(desk: &mut [u32], bytes: &mut [u8], at: u32, wrong: u32) -> u32 {
 
 // A line's parts in turn.
 fn put_parts(
-    desk: &mut [u32],
+    state: &mut [u32],
     bytes: &mut [u8],
     start: u32,
     label: u32,
@@ -202,46 +202,46 @@ fn put_parts(
     digits: u32,
     wrong: u32,
 ) -> u32 {
-    let upper = draw(desk, 2) == 0;
+    let upper = draw(state, 2) == 0;
     let blank = put_byte(bytes, start, label);
-    let from = put_blanks(desk, bytes, blank, wrong);
+    let from = put_blanks(state, bytes, blank, wrong);
     let to = put_address(bytes, from, address, digits, upper);
-    put_rest(desk, bytes, start, to, wrong)
+    put_rest(state, bytes, start, to, wrong)
 }
 
 // A line without its newline.
-fn put_line(desk: &mut [u32], bytes: &mut [u8], start: u32, wrong: u32) -> u32 {
-    let label = pick_label(desk, wrong);
-    let address = pick_address(desk, wrong);
-    let digits = pick_digits(desk, address, wrong);
+fn put_line(state: &mut [u32], bytes: &mut [u8], start: u32, wrong: u32) -> u32 {
+    let label = pick_label(state, wrong);
+    let address = pick_address(state, wrong);
+    let digits = pick_digits(state, address, wrong);
     if wrong == EMPTY {
         return start;
     }
-    put_parts(desk, bytes, start, label, address, digits, wrong)
+    put_parts(state, bytes, start, label, address, digits, wrong)
 }
 
-fn put_whole_line(desk: &mut [u32], bytes: &mut [u8], start: u32) -> u32 {
-    let wrong = draw(desk, 200);
-    let end = put_line(desk, bytes, start, wrong);
+fn put_whole_line(state: &mut [u32], bytes: &mut [u8], start: u32) -> u32 {
+    let wrong = draw(state, 200);
+    let end = put_line(state, bytes, start, wrong);
     put_byte(bytes, end, 10)
 }
 
 // n lines: where they end.
-fn put_lines(desk: &mut [u32], bytes: &mut [u8], n: u32) -> u32 {
+fn put_lines(state: &mut [u32], bytes: &mut [u8], n: u32) -> u32 {
     let mut at = 0;
     let mut k = 0;
     while k < n {
-        at = put_whole_line(desk, bytes, at);
+        at = put_whole_line(state, bytes, at);
         k += 1;
     }
     at
 }
 
 // A trace: its length. The last line may lack its newline.
-fn put_trace(desk: &mut [u32], bytes: &mut [u8]) -> u32 {
-    let lines = draw(desk, 90);
-    let end = put_lines(desk, bytes, lines);
-    let cut = draw(desk, 3);
+fn put_trace(state: &mut [u32], bytes: &mut [u8]) -> u32 {
+    let lines = draw(state, 90);
+    let end = put_lines(state, bytes, lines);
+    let cut = draw(state, 3);
     if cut == 0 {
         return less(end, 1);
     }
@@ -254,11 +254,11 @@ struct Text {
     lengths: Lengths,
 }
 
-fn pick_text(desk: &mut [u32], bytes: &mut [u8]) -> Text {
-    desk::begin(desk);
-    let n = put_trace(desk, bytes);
+fn pick_text(state: &mut [u32], bytes: &mut [u8]) -> Text {
+    state::begin(state);
+    let n = put_trace(state, bytes);
     let setup = din_lines::trace_setup();
-    let lengths = boards::perhaps_wrong_lengths(desk, lent::right_lengths(setup, 0), 20);
+    let lengths = setups::perhaps_wrong_lengths(state, lent::right_lengths(setup, 0), 20);
     Text {
         n: n,
         lengths: lengths,
@@ -268,20 +268,20 @@ fn pick_text(desk: &mut [u32], bytes: &mut [u8]) -> Text {
 // What a trace's report differs in from the model's; 0 if in nothing.
 fn reports_differ(reading: Reading, report: Report) -> u32 {
     if reading.refusal != report.refusal {
-        return desk::REFUSAL;
+        return state::REFUSAL;
     }
     if reading.line != report.line {
-        return desk::PLACE;
+        return state::PLACE;
     }
     let a = reading.account;
     let b = report.account;
     if run_trials::accounts_differ(a, b) {
-        return desk::ACCOUNT;
+        return state::ACCOUNT;
     }
     0
 }
 
-// A trace of n bytes in the model and in truth: what differs.
+// A trace of n bytes in the model and by the entry: what differs.
 fn count_both(
     bytes: &[u8],
     n: u32,
@@ -298,7 +298,7 @@ fn count_both(
         if run_trials::buffers_differ(real, wanted) {
             return Counted {
                 refusal: reading.refusal,
-                what: desk::BUFFERS,
+                what: state::BUFFERS,
             };
         }
     }
@@ -314,16 +314,16 @@ struct Counted {
 }
 
 pub(crate) fn trace_case(
-    desk: &mut [u32],
+    state: &mut [u32],
     bytes: &mut [u8],
     facts: &mut [u32],
     wanted: &mut [u32],
     real: &mut [u32],
     case: u32,
 ) {
-    let text = pick_text(desk, bytes);
+    let text = pick_text(state, bytes);
     let lengths = text.lengths;
     let counted = count_both(bytes, text.n, lengths, facts, wanted, real);
-    desk::note(desk, desk::TRACE, counted.refusal);
-    desk::judge(desk, desk::TRACE, case, counted.what);
+    state::note(state, state::TRACE, counted.refusal);
+    state::judge(state, state::TRACE, case, counted.what);
 }

@@ -1,15 +1,15 @@
 use borrow.Author.Needs.{needs}
-use Prim.Native.Nat.{_≤_, _-_}
+use Prim.Native.Nat.{_-_}
 use mathlib.Core.Path.{_≡_}
 use lib.ListN.{length}
 use Rattle.trials.proofs.starts.Statement.{statement}
 use Rattle.trials.proofs.starts.Tie as tie
 
 abbrev Inv-loop : tie.InvT-loop
-Inv-loop desk₀ wanted₀ real₀ n k₀ desk wanted real k = (length desk ≡ length desk₀) × (length wanted ≡ length wanted₀) × (length real ≡ length real₀)
+Inv-loop state₀ wanted₀ real₀ n k₀ state wanted real k = (length state ≡ length state₀) × (length wanted ≡ length wanted₀) × (length real ≡ length real₀)
 
 abbrev μ-loop : tie.MeasureT-loop
-μ-loop desk₀ wanted₀ real₀ n k₀ desk wanted real k = n - k
+μ-loop state₀ wanted₀ real₀ n k₀ state wanted real k = n - k
 
 loop-holds : tie.Need-loop-holds Inv-loop μ-loop
 loop-holds c = search needs

@@ -1,15 +1,15 @@
 use borrow.Author.Needs.{needs}
-use Prim.Native.Nat.{_≤_, _-_}
+use Prim.Native.Nat.{_-_}
 use mathlib.Core.Path.{_≡_}
 use lib.ListN.{length}
 use Rattle.trials.proofs.price_trials.build.Statement.{statement}
 use Rattle.trials.proofs.price_trials.build.Tie as tie
 
 abbrev Inv-loop : tie.InvT-loop
-Inv-loop desk₀ facts₀ entries₀ setup requests n style turns at₀ t₀ desk facts entries at t = (length desk ≡ length desk₀) × (length facts ≡ length facts₀) × (length entries ≡ length entries₀)
+Inv-loop state₀ facts₀ entries₀ setup requests n style turns at₀ t₀ state facts entries at t = (length state ≡ length state₀) × (length facts ≡ length facts₀) × (length entries ≡ length entries₀)
 
 abbrev μ-loop : tie.MeasureT-loop
-μ-loop desk₀ facts₀ entries₀ setup requests n style turns at₀ t₀ desk facts entries at t = turns - t
+μ-loop state₀ facts₀ entries₀ setup requests n style turns at₀ t₀ state facts entries at t = turns - t
 
 clear-requires : tie.Need-clear-requires Inv-loop μ-loop
 clear-requires c κs = search needs

@@ -1,15 +1,15 @@
 use borrow.Author.Needs.{needs}
-use Prim.Native.Nat.{_≤_, _-_}
+use Prim.Native.Nat.{_-_}
 use mathlib.Core.Path.{_≡_}
 use lib.ListN.{length}
 use Rattle.trials.proofs.trace_trials.put_lines.Statement.{statement}
 use Rattle.trials.proofs.trace_trials.put_lines.Tie as tie
 
 abbrev Inv-loop : tie.InvT-loop
-Inv-loop desk₀ bytes₀ n at₀ k₀ desk bytes at k = (length desk ≡ length desk₀) × (length bytes ≡ length bytes₀)
+Inv-loop state₀ bytes₀ n at₀ k₀ state bytes at k = (length state ≡ length state₀) × (length bytes ≡ length bytes₀)
 
 abbrev μ-loop : tie.MeasureT-loop
-μ-loop desk₀ bytes₀ n at₀ k₀ desk bytes at k = n - k
+μ-loop state₀ bytes₀ n at₀ k₀ state bytes at k = n - k
 
 loop-holds : tie.Need-loop-holds Inv-loop μ-loop
 loop-holds c = search needs

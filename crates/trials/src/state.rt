@@ -1,4 +1,4 @@
-// The desk: the dice, and the counts of what was seen, in one list of cells.
+// The state of the trials, in one list of cells: the random generator, and the counts of what was seen.
 use crate::cells::get;
 use crate::cells::less;
 use crate::cells::put;
@@ -34,8 +34,8 @@ pub const SHOWN: u32 = 7;
 
 pub const FACTOR: u32 = 8;
 
-// Cells of the desk: the dice, how they lay as the case began, the differences, and the sums of what was served.
-const DICE: u32 = 0;
+// Cells of the state: the generator, the generator as the case began, the differences, and the sums of what was served.
+const GENERATOR: u32 = 0;
 
 const SEED: u32 = 1;
 
@@ -47,46 +47,45 @@ pub const CYCLES: u32 = 4;
 
 pub const COMPARED: u32 = 5;
 
-pub const DEARER: u32 = 6;
+pub const CHEAPER: u32 = 6;
 
 const COUNTS: u32 = 16;
 
 // How many differences are printed; all are counted.
 const PRINTED: u32 = 20;
 
-// The dice as they lie first.
-pub(crate) fn open_with(desk: &mut [u32], seed: u32) {
-    put(desk, DICE, seed);
+pub(crate) fn set_seed(state: &mut [u32], seed: u32) {
+    put(state, GENERATOR, seed);
 }
 
 // A number below `below`, by Lehmer's generator modulo 2³¹ − 1.
-pub(crate) fn draw(desk: &mut [u32], below: u32) -> u32 {
-    let s = get(desk, DICE) as u64 * 48271 % 2147483647;
-    put(desk, DICE, s as u32);
+pub(crate) fn draw(state: &mut [u32], below: u32) -> u32 {
+    let s = get(state, GENERATOR) as u64 * 48271 % 2147483647;
+    put(state, GENERATOR, s as u32);
     remainder(s as u32, below)
 }
 
 // Any number of 32 bits.
-pub(crate) fn word(desk: &mut [u32]) -> u32 {
-    let high = draw(desk, 65536) % 65536;
-    let low = draw(desk, 65536) % 65536;
+pub(crate) fn word(state: &mut [u32]) -> u32 {
+    let high = draw(state, 65536) % 65536;
+    let low = draw(state, 65536) % 65536;
     high * 65536 + low
 }
 
 // A number from `low` to `high`.
-pub(crate) fn between(desk: &mut [u32], low: u32, high: u32) -> u32 {
-    sum(low, draw(desk, sum(less(high, low), 1)))
+pub(crate) fn between(state: &mut [u32], low: u32, high: u32) -> u32 {
+    sum(low, draw(state, sum(less(high, low), 1)))
 }
 
-// A case begins: how the dice lie names it.
-pub(crate) fn begin(desk: &mut [u32]) {
-    let seed = get(desk, DICE);
-    put(desk, SEED, seed);
+// A case begins: the generator's number names it.
+pub(crate) fn begin(state: &mut [u32]) {
+    let seed = get(state, GENERATOR);
+    put(state, SEED, seed);
 }
 
-pub(crate) fn add(desk: &mut [u32], place: u32, x: u32) {
-    let before = get(desk, place);
-    put(desk, place, sum(before, x));
+pub(crate) fn add(state: &mut [u32], place: u32, x: u32) {
+    let before = get(state, place);
+    put(state, place, sum(before, x));
 }
 
 fn count_place(kind: u32, number: u32) -> u32 {
@@ -99,22 +98,22 @@ fn print(text: &[u8], number: u32) {
 }
 
 // A trial of a kind ended in this number.
-pub(crate) fn note(desk: &mut [u32], kind: u32, number: u32) {
-    add(desk, count_place(kind, number), 1);
+pub(crate) fn note(state: &mut [u32], kind: u32, number: u32) {
+    add(state, count_place(kind, number), 1);
 }
 
 // A trial that differed from the model in `what`, 0 if in nothing.
-pub(crate) fn judge(desk: &mut [u32], kind: u32, case: u32, what: u32) {
+pub(crate) fn judge(state: &mut [u32], kind: u32, case: u32, what: u32) {
     if what == 0 {
         return;
     }
-    add(desk, DIFFERENCES, 1);
-    if get(desk, DIFFERENCES) > PRINTED {
+    add(state, DIFFERENCES, 1);
+    if get(state, DIFFERENCES) > PRINTED {
         return;
     }
     print_name(kind);
     print(b" case ", case);
-    print(b" seed ", get(desk, SEED));
+    print(b" seed ", get(state, SEED));
     print_what(what);
 }
 
@@ -156,8 +155,8 @@ fn print_number(kind: u32, number: u32) {
     io::write_all(STDOUT_FILENO, b" held");
 }
 
-fn print_count(desk: &[u32], kind: u32, number: u32) {
-    let count = get(desk, count_place(kind, number));
+fn print_count(state: &[u32], kind: u32, number: u32) {
+    let count = get(state, count_place(kind, number));
     if count == 0 {
         return;
     }
@@ -166,29 +165,29 @@ fn print_count(desk: &[u32], kind: u32, number: u32) {
     print_sum(b": ", count);
 }
 
-fn kind_total(desk: &[u32], kind: u32) -> u32 {
+fn kind_total(state: &[u32], kind: u32) -> u32 {
     let mut total = 0;
     let mut number = 0;
     while number < 32 {
-        total = sum(total, get(desk, count_place(kind, number)));
+        total = sum(total, get(state, count_place(kind, number)));
         number += 1;
     }
     total
 }
 
-fn print_counts(desk: &[u32], kind: u32) {
+fn print_counts(state: &[u32], kind: u32) {
     let mut number = 0;
     while number < 32 {
-        print_count(desk, kind, number);
+        print_count(state, kind, number);
         number += 1;
     }
 }
 
 // How many cases of a kind there were, and how many ended in each number.
-fn print_kind(desk: &[u32], kind: u32) {
+fn print_kind(state: &[u32], kind: u32) {
     print_name(kind);
-    print_sum(b" cases ", kind_total(desk, kind));
-    print_counts(desk, kind);
+    print_sum(b" cases ", kind_total(state, kind));
+    print_counts(state, kind);
 }
 
 fn print_sum(text: &[u8], number: u32) {
@@ -197,15 +196,15 @@ fn print_sum(text: &[u8], number: u32) {
 }
 
 // The counts of each kind by number, and last the differences.
-pub(crate) fn print_all(desk: &[u32; 256]) {
-    print_kind(desk, START);
-    print_kind(desk, RUN);
-    print_kind(desk, LOOK);
-    print_kind(desk, PRICE);
-    print_kind(desk, TRACE);
-    print_sum(b"requests served in runs ", get(desk, REQUESTS));
-    print_sum(b"cycles billed in runs ", get(desk, CYCLES));
-    print_sum(b"schedules held against the engine ", get(desk, COMPARED));
-    print_sum(b"of them cheaper than the engine ", get(desk, DEARER));
-    print_sum(b"differences ", get(desk, DIFFERENCES));
+pub(crate) fn print_all(state: &[u32; 256]) {
+    print_kind(state, START);
+    print_kind(state, RUN);
+    print_kind(state, LOOK);
+    print_kind(state, PRICE);
+    print_kind(state, TRACE);
+    print_sum(b"requests served in runs ", get(state, REQUESTS));
+    print_sum(b"cycles billed in runs ", get(state, CYCLES));
+    print_sum(b"schedules compared with the engine ", get(state, COMPARED));
+    print_sum(b"of them cheaper than the engine ", get(state, CHEAPER));
+    print_sum(b"differences ", get(state, DIFFERENCES));
 }

@@ -4,20 +4,20 @@ use crate::cells::product;
 use crate::cells::quotient;
 use crate::cells::remainder;
 use crate::cells::sum;
-use crate::desk::between;
-use crate::desk::draw;
-use crate::desk::word;
 use crate::din_lines;
 use crate::lent::Lengths;
+use crate::state::between;
+use crate::state::draw;
+use crate::state::word;
 use protocol::Account;
 use protocol::Setup;
 
 // A setup whose numbers are at most these.
-fn within(desk: &mut [u32], processors: u32, lines: u32, words: u32, blocks: u32) -> Setup {
-    let n = between(desk, 1, processors);
-    let l = between(desk, 1, lines);
-    let p = between(desk, 1, words);
-    let m = between(desk, 1, blocks);
+fn within(state: &mut [u32], processors: u32, lines: u32, words: u32, blocks: u32) -> Setup {
+    let n = between(state, 1, processors);
+    let l = between(state, 1, lines);
+    let p = between(state, 1, words);
+    let m = between(state, 1, blocks);
     Setup {
         processors: n,
         lines: l,
@@ -27,25 +27,25 @@ fn within(desk: &mut [u32], processors: u32, lines: u32, words: u32, blocks: u32
 }
 
 // A right setup, of one of a few shapes.
-pub(crate) fn pick_setup(desk: &mut [u32]) -> Setup {
-    let shape = draw(desk, 9);
-    let any = within(desk, 8, 64, 16, 256);
+pub(crate) fn pick_setup(state: &mut [u32]) -> Setup {
+    let shape = draw(state, 9);
+    let any = within(state, 8, 64, 16, 256);
     match shape {
         // Few blocks: much sharing.
-        0 => within(desk, 8, 2, 4, 6),
+        0 => within(state, 8, 2, 4, 6),
         // Words of their own.
-        1 => within(desk, 4, 3, 1, 8),
+        1 => within(state, 4, 3, 1, 8),
         // One processor.
-        2 => within(desk, 1, 8, 4, 32),
+        2 => within(state, 1, 8, 4, 32),
         // More lines than blocks.
         3 => Setup {
             processors: any.processors,
             lines: 64,
             words: any.words,
-            blocks: between(desk, 1, 8),
+            blocks: between(state, 1, 8),
         },
         // One line: every two blocks collide.
-        4 => within(desk, 3, 1, 3, 3),
+        4 => within(state, 3, 1, 3, 3),
         // The largest.
         5 => Setup {
             processors: 8,
@@ -55,7 +55,7 @@ pub(crate) fn pick_setup(desk: &mut [u32]) -> Setup {
         },
         6 => any,
         // A pair of processors on one block.
-        7 => within(desk, 2, 1, 6, 1),
+        7 => within(state, 2, 1, 6, 1),
         // The traces'.
         _ => din_lines::trace_setup(),
     }
@@ -84,11 +84,11 @@ pub(crate) fn most(which: u32) -> u32 {
 }
 
 // The setup, or once in `n` times one that is out of range.
-pub(crate) fn perhaps_wrong_setup(desk: &mut [u32], setup: Setup, n: u32) -> Setup {
-    let roll = draw(desk, n);
-    let which = draw(desk, 4);
-    let how = draw(desk, 3);
-    let far = word(desk);
+pub(crate) fn perhaps_wrong_setup(state: &mut [u32], setup: Setup, n: u32) -> Setup {
+    let roll = draw(state, n);
+    let which = draw(state, 4);
+    let how = draw(state, 3);
+    let far = word(state);
     if roll != 0 {
         return setup;
     }
@@ -108,10 +108,10 @@ fn off_by_one(x: u32, up: bool) -> u32 {
 }
 
 // The lengths, or once in n times with one of them wrong by one.
-pub(crate) fn perhaps_wrong_lengths(desk: &mut [u32], lengths: Lengths, n: u32) -> Lengths {
-    let roll = draw(desk, n);
-    let which = draw(desk, 6);
-    let up = draw(desk, 2) == 0;
+pub(crate) fn perhaps_wrong_lengths(state: &mut [u32], lengths: Lengths, n: u32) -> Lengths {
+    let roll = draw(state, n);
+    let which = draw(state, 6);
+    let up = draw(state, 2) == 0;
     let mut other = lengths;
     if roll != 0 {
         return other;
@@ -143,11 +143,11 @@ fn account_of(requests: u32, fetch: u32, write_back: u32, update: u32) -> Accoun
 }
 
 // An account with which a list of runs begins: mostly fresh, else at a limit or past it.
-pub(crate) fn pick_account(desk: &mut [u32], p: u32) -> Account {
-    let shape = draw(desk, 24);
-    let requests = between(desk, 999970, 1000003);
-    let few = draw(desk, 2000);
-    let far = word(desk);
+pub(crate) fn pick_account(state: &mut [u32], p: u32) -> Account {
+    let shape = draw(state, 24);
+    let requests = between(state, 999970, 1000003);
+    let few = draw(state, 2000);
+    let far = word(state);
     match shape {
         // About to be full, and at the limits of 21.
         0 => account_of(requests, full(p, requests), full(p, requests), requests),

@@ -1,21 +1,24 @@
 use borrow.Author.Needs.{needs}
-use Prim.Native.Nat.{_≤_, _-_}
+use Prim.Native.Nat.{_-_}
 use mathlib.Core.Path.{_≡_}
 use lib.ListN.{length}
-use Rattle.trials.proofs.asked.back.Statement.{statement}
-use Rattle.trials.proofs.asked.back.Tie as tie
+use Rattle.trials.proofs.cells.copy_part.Statement.{statement}
+use Rattle.trials.proofs.cells.copy_part.Tie as tie
 
 abbrev Inv-loop : tie.InvT-loop
-Inv-loop from cells₀ base n k₀ cells k = length cells ≡ length cells₀
+Inv-loop from a to₀ b n k₀ to k = length to ≡ length to₀
 
 abbrev μ-loop : tie.MeasureT-loop
-μ-loop from cells₀ base n k₀ cells k = n - k
+μ-loop from a to₀ b n k₀ to k = n - k
 
 loop-holds : tie.Need-loop-holds Inv-loop μ-loop
 loop-holds c = search needs
 
 sum-requires : tie.Need-sum-requires Inv-loop μ-loop
 sum-requires c κs = search needs
+
+sum-requires-2 : tie.Need-sum-requires-2 Inv-loop μ-loop
+sum-requires-2 c κs = search needs
 
 get-requires : tie.Need-get-requires Inv-loop μ-loop
 get-requires c κs = search needs
@@ -38,14 +41,15 @@ same-length c = search needs
 returns : tie.Need-returns Inv-loop μ-loop
 returns c = search needs
 
-pub back-spec : {M : Type 1} → statement M
-back-spec =
+pub copy-part-spec : {M : Type 1} → statement M
+copy-part-spec =
     tie.close
     (tie.spec
     Inv-loop
     μ-loop
     loop-holds
     sum-requires
+    sum-requires-2
     get-requires
     put-requires
     add-k
