@@ -1,13 +1,13 @@
 #!/usr/bin/env bash
 # Times buscount beside the same job in plain C, Rust and Free Pascal, in one go, on a made trace of 1,000,000 lines.
-# Prints the least and the mean user time of RUNS runs (default 60), in turn, and their ratios to C's. The least alone is rough, since
-# the kernel counts user time in steps. Needs rt, gcc, rustc, fpc and python3.
+# Prints the least and the mean user time of RUNS runs (default 60), in turn, and their ratios to C's. The least alone is
+# rough, since the kernel counts user time in steps. Needs rt, gcc, rustc, fpc and python3.
 set -eu
 cd "$(dirname "$0")/.."
 runs=${RUNS:-60}
 out=target/bench
 mkdir -p "$out"
-[ -x target/bin/buscount ] || rt check buscount > /dev/null
+rt check buscount > /dev/null
 gcc -O3 -o "$out/c" bench/buscount.c
 rustc -O -o "$out/rust" bench/buscount.rs
 fpc -O3 -o"$out/pascal" bench/buscount.pas > /dev/null

@@ -6,7 +6,7 @@ Usage: from_lackey.py BASE FILE...   (BASE: the address of the shared words, as 
 A line of the result is a label (0 load, 1 store) and an address whose top byte is the processor, which is the place of
 its file, and whose low bytes are the offset from BASE. Accesses outside the 1,024 bytes from BASE, which are the
 board's 256 variables of 4 bytes, are left out, as are instruction fetches. A modify is a load, then a store; an access
-of more than 4 bytes is one access for each word that it touches. The files are interleaved, one access of each in turn."""
+counts once for each word that it touches. The files are interleaved, one access of each in turn."""
 import itertools
 import sys
 
