@@ -1,10 +1,16 @@
-// The entries, called over tables that stand in one list of cells: each table is copied to an array of its own, a part of
-// which, as long as the case wants it, is lent.
-use crate::cells::copy_part;
+// The entries, called over the real tables: each table is copied to an array of its own, a part of which, as long as the
+// case wants it, is lent, and then copied back. Lists are lent in the same way.
+use crate::cells::BYTES;
+use crate::cells::Cells;
+use crate::cells::ENTRIES;
+use crate::cells::REAL;
+use crate::cells::REQUESTS;
 use crate::cells::get;
+use crate::cells::put;
 use crate::cells::sum;
 use crate::lent;
-use crate::lent::Lengths;
+use crate::setups;
+use crate::state;
 use numbers::Ran;
 use protocol::Account;
 use protocol::Block;
@@ -12,60 +18,112 @@ use protocol::PriceAnswer;
 use protocol::Setup;
 use trace_lines::Report;
 ghost use Prim.Native.Nat.{_≤_};
+ghost use lib.ListN.{length};
 
-// n, or `most` where n is more.
-fn at_most(n: u32, most: usize) -> usize
-    ensures { λ r. ⌜ r ≤ most ⌝ }
+// Room for the longest table, and for a trace.
+pub const ROOM: usize = 8200;
+
+pub type Table = [u32; ROOM];
+
+// What an entry answered, or the model; 0 and a fresh account stand where a kind has no such part.
+pub struct Answer {
+    pub refusal: u32,
+    pub place: usize,
+    pub taken: usize,
+    pub cost: u32,
+    pub account: Account,
+}
+
+pub(crate) fn answer_of(
+    refusal: u32,
+    place: usize,
+    taken: usize,
+    cost: u32,
+    account: Account,
+) -> Answer {
+    Answer {
+        refusal: refusal,
+        place: place,
+        taken: taken,
+        cost: cost,
+        account: account,
+    }
+}
+
+// n, or the room where n is more.
+fn within_room(n: u32) -> usize
+    ensures { λ r. ⌜ r ≤ 8200 ⌝ }
 {
     let k = n as usize;
-    if k <= most {
+    if k <= ROOM {
         return k;
     }
-    most
+    ROOM
 }
 
-// The n cells of a table that begins at `base` go to `to`.
-fn lend(cells: &[u32], base: u32, to: &mut [u32], n: u32) {
-    copy_part(cells, base, to, 0, n);
+fn set(table: &mut [u32], k: u32, x: u32) {
+    let i = k as usize;
+    if i < table.len() {
+        table[i] = x;
+    }
 }
 
-// The n cells of `from` go back to the table that begins at `base`.
-fn back(from: &[u32], cells: &mut [u32], base: u32, n: u32) {
-    copy_part(from, 0, cells, base, n);
+fn element(table: &Table, k: u32) -> u32 {
+    let i = k as usize;
+    if i < ROOM {
+        return table[i];
+    }
+    0
 }
 
-fn back_lines(from: &[u32; 520], cells: &mut [u32], base: u32, n: u32) {
-    back(from, cells, base, n);
+// The n cells from `first` on go to an array.
+fn fill(cells: &Cells, first: u32, n: u32, to: &mut [u32]) {
+    let mut k = 0;
+    while k < n {
+        set(to, k, get(cells, first, k));
+        k += 1;
+    }
 }
 
-fn back_words(from: &[u32; 8200], cells: &mut [u32], n: u32) {
-    back(from, cells, lent::WORDS, n);
+// The n numbers of a list go to an array: how many of them are lent.
+fn lend(cells: &Cells, first: u32, n: u32, to: &mut Table) -> usize
+    ensures { λ r. ⌜ r ≤ length (now (to .exit)) ⌝ }
+{
+    fill(cells, first, n, to);
+    within_room(n)
 }
 
-fn back_memory(from: &[u32; 4104], cells: &mut [u32], n: u32) {
-    back(from, cells, lent::MEMORY, n);
+// A table goes to an array: how much of it is lent.
+fn lend_table(cells: &Cells, table: u32, to: &mut Table) -> usize
+    ensures { λ r. ⌜ r ≤ length (now (to .exit)) ⌝ }
+{
+    let first = sum(REAL, lent::table_place(table));
+    lend(cells, first, lent::length(cells, table), to)
 }
 
-fn back_values(from: &[u32; 264], cells: &mut [u32], n: u32) {
-    back(from, cells, lent::VALUES, n);
+// A table comes back from its array.
+fn back(cells: &mut Cells, table: u32, from: &Table) {
+    let n = lent::length(cells, table);
+    let first = sum(REAL, lent::table_place(table));
+    let mut k = 0;
+    while k < n {
+        put(cells, first, k, element(from, k));
+        k += 1;
+    }
 }
 
-pub(crate) fn start(setup: Setup, lengths: Lengths, cells: &mut [u32]) -> u32 {
-    let mut blocks = [0u32; 520];
-    let mut counters = [0u32; 520];
-    let mut marks = [0u32; 520];
-    let mut words = [0u32; 8200];
-    let mut memory = [0u32; 4104];
-    lend(cells, 0, &mut blocks, lengths.blocks);
-    lend(cells, lent::COUNTERS, &mut counters, lengths.counters);
-    lend(cells, lent::MARKS, &mut marks, lengths.marks);
-    lend(cells, lent::WORDS, &mut words, lengths.words);
-    lend(cells, lent::MEMORY, &mut memory, lengths.memory);
-    let a = at_most(lengths.blocks, 520);
-    let b = at_most(lengths.counters, 520);
-    let c = at_most(lengths.marks, 520);
-    let d = at_most(lengths.words, 8200);
-    let e = at_most(lengths.memory, 4104);
+fn start(cells: &mut Cells, setup: Setup) -> u32 {
+    let view: &Cells = cells;
+    let mut blocks = [0u32; ROOM];
+    let mut counters = [0u32; ROOM];
+    let mut marks = [0u32; ROOM];
+    let mut words = [0u32; ROOM];
+    let mut memory = [0u32; ROOM];
+    let a = lend_table(view, lent::NUMBERS_TABLE, &mut blocks);
+    let b = lend_table(view, lent::COUNTERS_TABLE, &mut counters);
+    let c = lend_table(view, lent::MARKS_TABLE, &mut marks);
+    let d = lend_table(view, lent::WORDS_TABLE, &mut words);
+    let e = lend_table(view, lent::MEMORY_TABLE, &mut memory);
     let refusal = tables::start(
         setup,
         &mut blocks[..a],
@@ -74,42 +132,31 @@ pub(crate) fn start(setup: Setup, lengths: Lengths, cells: &mut [u32]) -> u32 {
         &mut words[..d],
         &mut memory[..e],
     );
-    back_lines(&blocks, cells, 0, lengths.blocks);
-    back_lines(&counters, cells, lent::COUNTERS, lengths.counters);
-    back_lines(&marks, cells, lent::MARKS, lengths.marks);
-    back_words(&words, cells, lengths.words);
-    back_memory(&memory, cells, lengths.memory);
+    back(cells, lent::NUMBERS_TABLE, &blocks);
+    back(cells, lent::COUNTERS_TABLE, &counters);
+    back(cells, lent::MARKS_TABLE, &marks);
+    back(cells, lent::WORDS_TABLE, &words);
+    back(cells, lent::MEMORY_TABLE, &memory);
     refusal
 }
 
-// A run of the first n numbers of `requests`.
-pub(crate) fn run(
-    setup: Setup,
-    lengths: Lengths,
-    account: Account,
-    requests: &[u32],
-    n: u32,
-    cells: &mut [u32],
-) -> Ran {
-    let mut blocks = [0u32; 520];
-    let mut counters = [0u32; 520];
-    let mut marks = [0u32; 520];
-    let mut words = [0u32; 8200];
-    let mut memory = [0u32; 4104];
-    let mut values = [0u32; 264];
-    lend(cells, 0, &mut blocks, lengths.blocks);
-    lend(cells, lent::COUNTERS, &mut counters, lengths.counters);
-    lend(cells, lent::MARKS, &mut marks, lengths.marks);
-    lend(cells, lent::WORDS, &mut words, lengths.words);
-    lend(cells, lent::MEMORY, &mut memory, lengths.memory);
-    lend(cells, lent::VALUES, &mut values, lengths.values);
-    let a = at_most(lengths.blocks, 520);
-    let b = at_most(lengths.counters, 520);
-    let c = at_most(lengths.marks, 520);
-    let d = at_most(lengths.words, 8200);
-    let e = at_most(lengths.memory, 4104);
-    let f = at_most(lengths.values, 264);
-    let g = at_most(n, requests.len());
+// A run of the first n numbers of the requests.
+fn run(cells: &mut Cells, setup: Setup, account: Account, n: u32) -> Ran {
+    let view: &Cells = cells;
+    let mut blocks = [0u32; ROOM];
+    let mut counters = [0u32; ROOM];
+    let mut marks = [0u32; ROOM];
+    let mut words = [0u32; ROOM];
+    let mut memory = [0u32; ROOM];
+    let mut values = [0u32; ROOM];
+    let mut requests = [0u32; ROOM];
+    let a = lend_table(view, lent::NUMBERS_TABLE, &mut blocks);
+    let b = lend_table(view, lent::COUNTERS_TABLE, &mut counters);
+    let c = lend_table(view, lent::MARKS_TABLE, &mut marks);
+    let d = lend_table(view, lent::WORDS_TABLE, &mut words);
+    let e = lend_table(view, lent::MEMORY_TABLE, &mut memory);
+    let f = lend_table(view, lent::VALUES_TABLE, &mut values);
+    let g = lend(view, REQUESTS, n, &mut requests);
     let ran = numbers::run(
         setup,
         &mut blocks[..a],
@@ -121,17 +168,137 @@ pub(crate) fn run(
         &requests[..g],
         &mut values[..f],
     );
-    back_lines(&blocks, cells, 0, lengths.blocks);
-    back_lines(&counters, cells, lent::COUNTERS, lengths.counters);
-    back_lines(&marks, cells, lent::MARKS, lengths.marks);
-    back_words(&words, cells, lengths.words);
-    back_memory(&memory, cells, lengths.memory);
-    back_values(&values, cells, lengths.values);
+    back(cells, lent::NUMBERS_TABLE, &blocks);
+    back(cells, lent::COUNTERS_TABLE, &counters);
+    back(cells, lent::MARKS_TABLE, &marks);
+    back(cells, lent::WORDS_TABLE, &words);
+    back(cells, lent::MEMORY_TABLE, &memory);
+    back(cells, lent::VALUES_TABLE, &values);
     ran
 }
 
+// The price of the first m numbers of the entries for the first n numbers of the requests.
+fn price(cells: &mut Cells, setup: Setup, m: u32, n: u32) -> PriceAnswer {
+    let view: &Cells = cells;
+    let mut blocks = [0u32; ROOM];
+    let mut held = [0u32; ROOM];
+    let mut marks = [0u32; ROOM];
+    let mut entries = [0u32; ROOM];
+    let mut requests = [0u32; ROOM];
+    let a = lend_table(view, lent::NUMBERS_TABLE, &mut blocks);
+    let b = lend_table(view, lent::COUNTERS_TABLE, &mut held);
+    let c = lend_table(view, lent::MARKS_TABLE, &mut marks);
+    let d = lend(view, ENTRIES, m, &mut entries);
+    let e = lend(view, REQUESTS, n, &mut requests);
+    let answer = numbers::price(
+        setup,
+        &mut blocks[..a],
+        &mut held[..b],
+        &mut marks[..c],
+        &entries[..d],
+        &requests[..e],
+    );
+    back(cells, lent::NUMBERS_TABLE, &blocks);
+    back(cells, lent::COUNTERS_TABLE, &held);
+    back(cells, lent::MARKS_TABLE, &marks);
+    answer
+}
+
+fn set_byte(bytes: &mut [u8], k: u32, x: u32) {
+    let i = k as usize;
+    if i < bytes.len() {
+        bytes[i] = (x % 256) as u8;
+    }
+}
+
+fn fill_bytes(cells: &Cells, n: u32, to: &mut [u8]) {
+    let mut k = 0;
+    while k < n {
+        set_byte(to, k, get(cells, BYTES, k));
+        k += 1;
+    }
+}
+
+// The n bytes of the trace go to an array: how many of them are lent.
+fn lend_bytes(cells: &Cells, n: u32, to: &mut [u8; ROOM]) -> usize
+    ensures { λ r. ⌜ r ≤ length (now (to .exit)) ⌝ }
+{
+    fill_bytes(cells, n, to);
+    within_room(n)
+}
+
+// The trace of the first n bytes.
+fn count(cells: &mut Cells, n: u32) -> Report {
+    let view: &Cells = cells;
+    let mut blocks = [0u32; ROOM];
+    let mut counters = [0u32; ROOM];
+    let mut marks = [0u32; ROOM];
+    let mut words = [0u32; ROOM];
+    let mut memory = [0u32; ROOM];
+    let mut bytes = [0u8; ROOM];
+    let a = lend_table(view, lent::NUMBERS_TABLE, &mut blocks);
+    let b = lend_table(view, lent::COUNTERS_TABLE, &mut counters);
+    let c = lend_table(view, lent::MARKS_TABLE, &mut marks);
+    let d = lend_table(view, lent::WORDS_TABLE, &mut words);
+    let e = lend_table(view, lent::MEMORY_TABLE, &mut memory);
+    let f = lend_bytes(view, n, &mut bytes);
+    let report = trace::count_trace(
+        &bytes[..f],
+        &mut blocks[..a],
+        &mut counters[..b],
+        &mut marks[..c],
+        &mut words[..d],
+        &mut memory[..e],
+    );
+    back(cells, lent::NUMBERS_TABLE, &blocks);
+    back(cells, lent::COUNTERS_TABLE, &counters);
+    back(cells, lent::MARKS_TABLE, &marks);
+    back(cells, lent::WORDS_TABLE, &words);
+    back(cells, lent::MEMORY_TABLE, &memory);
+    report
+}
+
+fn run_answer(ran: Ran) -> Answer {
+    let answer = ran.answer;
+    let account = ran.account;
+    answer_of(answer.refusal, answer.place, answer.taken, 0, account)
+}
+
+// A legal schedule has no place, and a refused one no cost.
+fn price_answer(answer: PriceAnswer) -> Answer {
+    match answer {
+        PriceAnswer::Accepted(cost) => answer_of(0, 0, 0, cost, setups::fresh_account()),
+        PriceAnswer::Refused(number, place) => {
+            answer_of(number, place, 0, 0, setups::fresh_account())
+        }
+    }
+}
+
+fn trace_answer(report: Report) -> Answer {
+    let account = report.account;
+    answer_of(report.refusal, report.line as usize, 0, 0, account)
+}
+
+// Calls an entry over the real tables, by its kind (module state): m is how many numbers of the entries are lent, n how
+// many numbers of the requests or bytes of the trace.
+pub(crate) fn ask(
+    cells: &mut Cells,
+    kind: u32,
+    setup: Setup,
+    account: Account,
+    m: u32,
+    n: u32,
+) -> Answer {
+    match kind {
+        state::START => answer_of(start(cells, setup), 0, 0, 0, account),
+        state::RUN => run_answer(run(cells, setup, account, n)),
+        state::PRICE => price_answer(price(cells, setup, m, n)),
+        _ => trace_answer(count(cells, n)),
+    }
+}
+
 // How many of the words that a look showed differ from the cells from `first` on.
-fn unlike(shown: &[u32], cells: &[u32], first: u32) -> u32 {
+fn unlike(shown: &[u32], cells: &Cells, first: u32) -> u32 {
     let mut count = 0;
     let mut k = 0;
     while k < shown.len() {
@@ -143,115 +310,36 @@ fn unlike(shown: &[u32], cells: &[u32], first: u32) -> u32 {
     count
 }
 
-fn cell_after(cells: &[u32], first: u32, k: usize) -> u32 {
+fn cell_after(cells: &Cells, first: u32, k: usize) -> u32 {
     if k < 65536 {
-        return get(cells, sum(first, k as u32));
+        return get(cells, first, k as u32);
     }
     0
 }
 
-// What a look showed: how many words, and how many of them differ from the cells from `first` on.
+// What a look showed: how many words, and how many of them are not those of the block.
 pub struct Shown {
     pub count: usize,
     pub unlike: u32,
 }
 
-pub(crate) fn look(
-    setup: Setup,
-    lengths: Lengths,
-    i: u32,
-    block: u32,
-    cells: &[u32],
-    first: u32,
-) -> Shown {
-    let mut blocks = [0u32; 520];
-    let mut counters = [0u32; 520];
-    let mut words = [0u32; 8200];
-    lend(cells, 0, &mut blocks, lengths.blocks);
-    lend(cells, lent::COUNTERS, &mut counters, lengths.counters);
-    lend(cells, lent::WORDS, &mut words, lengths.words);
-    let a = at_most(lengths.blocks, 520);
-    let b = at_most(lengths.counters, 520);
-    let d = at_most(lengths.words, 8200);
+pub(crate) fn look(cells: &Cells, setup: Setup, i: u32, block: u32) -> Shown {
+    let mut blocks = [0u32; ROOM];
+    let mut counters = [0u32; ROOM];
+    let mut words = [0u32; ROOM];
+    let a = lend_table(cells, lent::NUMBERS_TABLE, &mut blocks);
+    let b = lend_table(cells, lent::COUNTERS_TABLE, &mut counters);
+    let c = lend_table(cells, lent::WORDS_TABLE, &mut words);
     let shown = tables::look(
         setup,
         i,
         Block(block),
         &blocks[..a],
         &counters[..b],
-        &words[..d],
+        &words[..c],
     );
     Shown {
         count: shown.len(),
-        unlike: unlike(shown, cells, first),
+        unlike: unlike(shown, cells, lent::shown_place(setup, i, block)),
     }
-}
-
-// The price of the first m numbers of `entries` for the first n numbers of `requests`.
-pub(crate) fn price(
-    setup: Setup,
-    lengths: Lengths,
-    entries: &[u32],
-    m: u32,
-    requests: &[u32],
-    n: u32,
-    cells: &mut [u32],
-) -> PriceAnswer {
-    let mut blocks = [0u32; 520];
-    let mut held = [0u32; 520];
-    let mut marks = [0u32; 520];
-    lend(cells, 0, &mut blocks, lengths.blocks);
-    lend(cells, lent::COUNTERS, &mut held, lengths.counters);
-    lend(cells, lent::MARKS, &mut marks, lengths.marks);
-    let a = at_most(lengths.blocks, 520);
-    let b = at_most(lengths.counters, 520);
-    let c = at_most(lengths.marks, 520);
-    let d = at_most(m, entries.len());
-    let e = at_most(n, requests.len());
-    let answer = numbers::price(
-        setup,
-        &mut blocks[..a],
-        &mut held[..b],
-        &mut marks[..c],
-        &entries[..d],
-        &requests[..e],
-    );
-    back_lines(&blocks, cells, 0, lengths.blocks);
-    back_lines(&held, cells, lent::COUNTERS, lengths.counters);
-    back_lines(&marks, cells, lent::MARKS, lengths.marks);
-    answer
-}
-
-// The trace of the first n bytes.
-pub(crate) fn count(lengths: Lengths, bytes: &[u8], n: u32, cells: &mut [u32]) -> Report {
-    let mut blocks = [0u32; 520];
-    let mut counters = [0u32; 520];
-    let mut marks = [0u32; 520];
-    let mut words = [0u32; 8200];
-    let mut memory = [0u32; 4104];
-    lend(cells, 0, &mut blocks, lengths.blocks);
-    lend(cells, lent::COUNTERS, &mut counters, lengths.counters);
-    lend(cells, lent::MARKS, &mut marks, lengths.marks);
-    lend(cells, lent::WORDS, &mut words, lengths.words);
-    lend(cells, lent::MEMORY, &mut memory, lengths.memory);
-    let a = at_most(lengths.blocks, 520);
-    let b = at_most(lengths.counters, 520);
-    let c = at_most(lengths.marks, 520);
-    let d = at_most(lengths.words, 8200);
-    let e = at_most(lengths.memory, 4104);
-    let f = at_most(n, bytes.len());
-    let report = trace::count_trace(
-        &bytes[..f],
-        &mut blocks[..a],
-        &mut counters[..b],
-        &mut marks[..c],
-        &mut words[..d],
-        &mut memory[..e],
-    );
-    back_lines(&blocks, cells, 0, lengths.blocks);
-    back_lines(&counters, cells, lent::COUNTERS, lengths.counters);
-    back_lines(&marks, cells, lent::MARKS, lengths.marks);
-    back_words(&words, cells, lengths.words);
-    back_memory(&memory, cells, lengths.memory);
-    report
 }

@@ -1,92 +1,89 @@
 // What is known of a board: for each processor and block the counter (0: no copy), for each block who has it marked,
 // for each variable its current value, which all copies share, and its value in main memory. The largest board takes
 // 8 × 256 counters, 256 owners and 4,096 variables twice: 10,496 cells.
+use crate::cells::Cells;
+use crate::cells::FACTS;
+use crate::cells::copy;
 use crate::cells::get;
 use crate::cells::product;
 use crate::cells::put;
 use crate::cells::remainder;
 use crate::cells::sum;
+use crate::cells::wipe;
 
 // Processors and blocks of the largest board.
 pub const PROCESSORS: u32 = 8;
 
 pub const BLOCKS: u32 = 256;
 
-const OWNERS: u32 = 2048;
+// Where the owners, the current values and main memory begin, after the counters.
+const OWNERS: u32 = FACTS + 2048;
 
-const CURRENT: u32 = 2304;
+pub const CURRENT: u32 = FACTS + 2304;
 
-const MEMORY: u32 = 6400;
+pub const MEMORY: u32 = FACTS + 6400;
+
+// Nothing is known yet: no copies, no marks, every variable 0.
+pub(crate) fn clear(cells: &mut Cells) {
+    wipe(cells, FACTS, 10496);
+}
 
 fn pair(i: u32, b: u32) -> u32 {
     sum(product(i, BLOCKS), b)
 }
 
 // Processor i's counter for block b.
-pub(crate) fn counter(facts: &[u32], i: u32, b: u32) -> u32 {
-    get(facts, pair(i, b))
+pub(crate) fn counter(cells: &Cells, i: u32, b: u32) -> u32 {
+    get(cells, FACTS, pair(i, b))
 }
 
-pub(crate) fn set_counter(facts: &mut [u32], i: u32, b: u32, x: u32) {
-    put(facts, pair(i, b), x);
+pub(crate) fn set_counter(cells: &mut Cells, i: u32, b: u32, x: u32) {
+    put(cells, FACTS, pair(i, b), x);
 }
 
 // One more than the processor that has block b marked; 0 if none has.
-pub(crate) fn owner(facts: &[u32], b: u32) -> u32 {
-    get(facts, sum(OWNERS, b))
+pub(crate) fn owner(cells: &Cells, b: u32) -> u32 {
+    get(cells, OWNERS, b)
 }
 
-pub(crate) fn set_owner(facts: &mut [u32], b: u32, x: u32) {
-    put(facts, sum(OWNERS, b), x);
+pub(crate) fn set_owner(cells: &mut Cells, b: u32, x: u32) {
+    put(cells, OWNERS, b, x);
 }
 
 // Whether processor i has block b marked.
-pub(crate) fn owns(facts: &[u32], i: u32, b: u32) -> bool {
-    owner(facts, b) == sum(i, 1)
+pub(crate) fn owns(cells: &Cells, i: u32, b: u32) -> bool {
+    owner(cells, b) == sum(i, 1)
 }
 
 // The value of variable v in every copy of its block.
-pub(crate) fn current(facts: &[u32], v: u32) -> u32 {
-    get(facts, sum(CURRENT, v))
+pub(crate) fn current(cells: &Cells, v: u32) -> u32 {
+    get(cells, CURRENT, v)
 }
 
-pub(crate) fn set_current(facts: &mut [u32], v: u32, x: u32) {
-    put(facts, sum(CURRENT, v), x);
+pub(crate) fn set_current(cells: &mut Cells, v: u32, x: u32) {
+    put(cells, CURRENT, v, x);
 }
 
-// The value of variable v in main memory.
-pub(crate) fn stored(facts: &[u32], v: u32) -> u32 {
-    get(facts, sum(MEMORY, v))
-}
-
-pub(crate) fn set_stored(facts: &mut [u32], v: u32, x: u32) {
-    put(facts, sum(MEMORY, v), x);
-}
-
-fn save_word(facts: &mut [u32], v: u32) {
-    let x = current(facts, v);
-    set_stored(facts, v, x);
+// Main memory has x at variable v.
+pub(crate) fn set_stored(cells: &mut Cells, v: u32, x: u32) {
+    put(cells, MEMORY, v, x);
 }
 
 // Main memory takes the p words of block b, whose mark clears.
-pub(crate) fn save(facts: &mut [u32], p: u32, b: u32) {
-    let first = product(b, p);
-    let mut k = 0;
-    while k < p {
-        save_word(facts, sum(first, k));
-        k += 1;
-    }
-    set_owner(facts, b, 0);
+pub(crate) fn save(cells: &mut Cells, p: u32, b: u32) {
+    let v = product(b, p);
+    copy(cells, sum(CURRENT, v), sum(MEMORY, v), p);
+    set_owner(cells, b, 0);
 }
 
 // The lowest-numbered processor other than i with a copy of block b; PROCESSORS if none. It is sought from the top.
-pub(crate) fn other_holder(facts: &[u32], i: u32, b: u32) -> u32 {
+pub(crate) fn other_holder(cells: &Cells, i: u32, b: u32) -> u32 {
     let mut found = PROCESSORS;
     let mut j = PROCESSORS;
     while j > 0 {
         j -= 1;
         if j != i {
-            if counter(facts, j, b) > 0 {
+            if counter(cells, j, b) > 0 {
                 found = j;
             }
         }
@@ -95,18 +92,18 @@ pub(crate) fn other_holder(facts: &[u32], i: u32, b: u32) -> u32 {
 }
 
 // Whether processor i has block a, and a may stand only where b may, of `lines` lines.
-fn collides(facts: &[u32], lines: u32, i: u32, a: u32, b: u32) -> bool {
-    if counter(facts, i, a) == 0 {
+fn collides(cells: &Cells, lines: u32, i: u32, a: u32, b: u32) -> bool {
+    if counter(cells, i, a) == 0 {
         return false;
     }
     remainder(a, lines) == remainder(b, lines)
 }
 
 // The block of processor i that stands where block b may; BLOCKS if none.
-pub(crate) fn in_the_way(facts: &[u32], lines: u32, i: u32, b: u32) -> u32 {
+pub(crate) fn in_the_way(cells: &Cells, lines: u32, i: u32, b: u32) -> u32 {
     let mut a = 0;
     while a < BLOCKS {
-        if collides(facts, lines, i, a, b) {
+        if collides(cells, lines, i, a, b) {
             return a;
         }
         a += 1;

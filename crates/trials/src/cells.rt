@@ -1,62 +1,81 @@
-// Numbers in lent cells. Outside the cells 0 is read and nothing is written, and every sum and quotient has a value,
-// so that no place that the rest of the model computes needs an argument.
-pub(crate) fn get(cells: &[u32], k: u32) -> u32 {
-    let i = k as usize;
-    if i < cells.len() {
+// Numbers in cells: all that the trials keep stands in one array, so that a function is handed one reference to it. Outside
+// the cells 0 is read and nothing is written, and every sum and quotient has a value, so that no place that the rest of
+// the model computes needs an argument.
+
+// Where each part begins. The generator and the counts (module state) stand first. The lengths are those at which tables
+// are lent; entries and requests are a schedule's and a run's; the bytes are a trace's, each in a cell of its own; the
+// facts are the model's (module board). The tables (module lent) stand twice: as the model wants them, and as the entries
+// leave them.
+pub const STATE: u32 = 0;
+
+pub const LENGTHS: u32 = 256;
+
+pub const ENTRIES: u32 = 272;
+
+pub const REQUESTS: u32 = 1472;
+
+pub const BYTES: u32 = 1732;
+
+pub const FACTS: u32 = 9924;
+
+pub const WANTED: u32 = 20420;
+
+pub const REAL: u32 = 34548;
+
+pub const SIZE: usize = 48676;
+
+pub type Cells = [u32; SIZE];
+
+// Cell k of the part that begins at `first`.
+pub(crate) fn get(cells: &Cells, first: u32, k: u32) -> u32 {
+    let i = sum(first, k) as usize;
+    if i < SIZE {
         return cells[i];
     }
     0
 }
 
-pub(crate) fn put(cells: &mut [u32], k: u32, x: u32) {
-    let i = k as usize;
-    if i < cells.len() {
+pub(crate) fn put(cells: &mut Cells, first: u32, k: u32, x: u32) {
+    let i = sum(first, k) as usize;
+    if i < SIZE {
         cells[i] = x;
     }
 }
 
-// Every cell becomes 0.
-pub(crate) fn clear(cells: &mut [u32]) {
-    let mut i = 0;
-    while i < cells.len() {
-        cells[i] = 0;
-        i += 1;
-    }
-}
-
 // The n cells from `first` on become 0.
-pub(crate) fn wipe(cells: &mut [u32], first: u32, n: u32) {
+pub(crate) fn wipe(cells: &mut Cells, first: u32, n: u32) {
     let mut k = 0;
     while k < n {
-        put(cells, sum(first, k), 0);
+        put(cells, first, k, 0);
         k += 1;
     }
 }
 
-// The n cells of `to` from b on become those of `from` from a on.
-pub(crate) fn copy_part(from: &[u32], a: u32, to: &mut [u32], b: u32, n: u32) {
+fn copy_cell(cells: &mut Cells, a: u32, b: u32, k: u32) {
+    let x = get(cells, a, k);
+    put(cells, b, k, x);
+}
+
+// The n cells from b on become those from a on.
+pub(crate) fn copy(cells: &mut Cells, a: u32, b: u32, n: u32) {
     let mut k = 0;
     while k < n {
-        put(to, sum(b, k), get(from, sum(a, k)));
+        copy_cell(cells, a, b, k);
         k += 1;
     }
 }
 
-// The first n cells of `to` become those of `from`.
-pub(crate) fn copy(from: &[u32], to: &mut [u32], n: u32) {
-    copy_part(from, 0, to, 0, n);
-}
-
-// The first of n cells in which the two differ; n if none.
-pub(crate) fn first_difference(a: &[u32], b: &[u32], n: u32) -> u32 {
+// How many of the n cells from a on differ from those from b on.
+pub(crate) fn differences(cells: &Cells, a: u32, b: u32, n: u32) -> u32 {
+    let mut count = 0;
     let mut k = 0;
     while k < n {
-        if get(a, k) != get(b, k) {
-            return k;
+        if get(cells, a, k) != get(cells, b, k) {
+            count = sum(count, 1);
         }
         k += 1;
     }
-    n
+    count
 }
 
 pub(crate) fn sum(a: u32, b: u32) -> u32 {

@@ -1,4 +1,7 @@
-// Damage to the lent tables: one line changes, or the main memory of its block. Some of it leaves sound tables sound.
+// Damage to the real tables: one line changes, or the main memory of its block. Some of it leaves sound tables sound.
+use crate::cells::Cells;
+use crate::cells::REAL;
+use crate::cells::copy;
 use crate::cells::get;
 use crate::cells::less;
 use crate::cells::product;
@@ -10,12 +13,20 @@ use crate::state::draw;
 use crate::state::word;
 use protocol::Setup;
 
+const COUNTERS: u32 = REAL + lent::COUNTERS;
+
+const MARKS: u32 = REAL + lent::MARKS;
+
+const WORDS: u32 = REAL + lent::WORDS;
+
+const MEMORY: u32 = REAL + lent::MEMORY;
+
 // The first slot from k on that is not empty, in turn; k if all are.
-pub(crate) fn held_slot(cells: &[u32], slots: u32, k: u32) -> u32 {
+pub(crate) fn held_slot(cells: &Cells, slots: u32, k: u32) -> u32 {
     let mut t = 0;
     while t < slots {
         let at = remainder(sum(k, t), slots);
-        if get(cells, sum(lent::COUNTERS, at)) > 0 {
+        if get(cells, COUNTERS, at) > 0 {
             return at;
         }
         t += 1;
@@ -23,79 +34,84 @@ pub(crate) fn held_slot(cells: &[u32], slots: u32, k: u32) -> u32 {
     k
 }
 
-// The n cells from b on become those from a on.
-fn copy_cells(cells: &mut [u32], a: u32, b: u32, n: u32) {
-    let mut o = 0;
-    while o < n {
-        put(cells, sum(b, o), get(cells, sum(a, o)));
-        o += 1;
-    }
+// The block number in slot k.
+pub(crate) fn block_at(cells: &Cells, k: u32) -> u32 {
+    get(cells, REAL, k)
+}
+
+fn words_place(k: u32, p: u32) -> u32 {
+    sum(WORDS, product(k, p))
 }
 
 // Slot `to` becomes a copy of slot `from`.
-fn copy_slot(cells: &mut [u32], p: u32, from: u32, to: u32) {
-    let a = sum(lent::WORDS, product(from, p));
-    let b = sum(lent::WORDS, product(to, p));
-    copy_cells(cells, from, to, 1);
-    copy_cells(cells, sum(lent::COUNTERS, from), sum(lent::COUNTERS, to), 1);
-    copy_cells(cells, sum(lent::MARKS, from), sum(lent::MARKS, to), 1);
-    copy_cells(cells, a, b, p);
+fn copy_slot(cells: &mut Cells, p: u32, from: u32, to: u32) {
+    copy(cells, sum(REAL, from), sum(REAL, to), 1);
+    copy(cells, sum(COUNTERS, from), sum(COUNTERS, to), 1);
+    copy(cells, sum(MARKS, from), sum(MARKS, to), 1);
+    copy(cells, words_place(from, p), words_place(to, p), p);
 }
 
-// One cell of slot k changes, or of the main memory of the block there.
-fn damage_cell(cells: &mut [u32], setup: Setup, k: u32, how: u32, x: u32) {
-    let block = get(cells, k);
-    let mark = get(cells, sum(lent::MARKS, k));
-    let word = sum(
-        sum(lent::WORDS, product(k, setup.words)),
-        remainder(x, setup.words),
-    );
-    let home = sum(
-        sum(lent::MEMORY, product(block, setup.words)),
-        remainder(x, setup.words),
-    );
+// The cell that changes: of slot k, or of the main memory of its block.
+fn damaged_place(setup: Setup, k: u32, block: u32, how: u32, x: u32) -> u32 {
+    let offset = remainder(x, setup.words);
     match how {
-        0 => put(cells, sum(lent::COUNTERS, k), sum(setup.words, 1)),
-        1 => put(cells, sum(lent::COUNTERS, k), 0),
-        2 => put(
-            cells,
-            sum(lent::COUNTERS, k),
-            remainder(x, sum(setup.words, 1)),
-        ),
-        3 => put(cells, k, remainder(x, sum(setup.blocks, 2))),
-        4 => put(cells, k, sum(block, setup.lines)),
-        5 => put(cells, sum(lent::MARKS, k), less(1, mark)),
-        6 => put(cells, sum(lent::MARKS, k), sum(2, remainder(x, 2))),
-        7 => put(cells, word, x),
-        _ => put(cells, home, x),
+        0 | 1 | 2 => sum(COUNTERS, k),
+        3 | 4 => sum(REAL, k),
+        5 | 6 => sum(MARKS, k),
+        7 => sum(words_place(k, setup.words), offset),
+        _ => sum(sum(MEMORY, product(block, setup.words)), offset),
     }
+}
+
+// What that cell becomes.
+fn damaged_number(setup: Setup, block: u32, mark: u32, how: u32, x: u32) -> u32 {
+    match how {
+        0 => sum(setup.words, 1),
+        1 => 0,
+        2 => remainder(x, sum(setup.words, 1)),
+        3 => remainder(x, sum(setup.blocks, 2)),
+        4 => sum(block, setup.lines),
+        5 => less(1, mark),
+        6 => sum(2, remainder(x, 2)),
+        _ => x,
+    }
+}
+
+fn damage_cell(cells: &mut Cells, setup: Setup, k: u32, how: u32, x: u32) {
+    let block = block_at(cells, k);
+    let mark = get(cells, MARKS, k);
+    let number = damaged_number(setup, block, mark, how, x);
+    put(cells, damaged_place(setup, k, block, how, x), 0, number);
+}
+
+// The slot that is damaged: any, once in four times, or else the first held one from it on.
+fn damaged_slot(cells: &Cells, slots: u32, any: u32, seek: u32) -> u32 {
+    if seek == 0 {
+        return any;
+    }
+    held_slot(cells, slots, any)
 }
 
 // Damage to one line, held or empty.
-fn damage(state: &mut [u32], cells: &mut [u32], setup: Setup) {
+fn damage(cells: &mut Cells, setup: Setup) {
     let slots = lent::slots(setup);
-    let any = draw(state, slots);
-    let seek = draw(state, 4);
-    let how = draw(state, 11);
-    let x = word(state);
-    let held = held_slot(cells, slots, any);
-    if seek == 0 {
-        damage_cell(cells, setup, any, how, x);
+    let any = draw(cells, slots);
+    let seek = draw(cells, 4);
+    let how = draw(cells, 11);
+    let x = word(cells);
+    let k = damaged_slot(cells, slots, any, seek);
+    if seek == 0 || how < 9 {
+        damage_cell(cells, setup, k, how, x);
         return;
     }
-    if how >= 9 {
-        let other = remainder(sum(held, setup.lines), slots);
-        copy_slot(cells, setup.words, held, other);
-        return;
-    }
-    damage_cell(cells, setup, held, how, x);
+    copy_slot(cells, setup.words, k, remainder(sum(k, setup.lines), slots));
 }
 
 // Once in a while the tables are damaged.
-pub(crate) fn perhaps_damage(state: &mut [u32], cells: &mut [u32], setup: Setup) {
-    let roll = draw(state, 4);
+pub(crate) fn perhaps_damage(cells: &mut Cells, setup: Setup) {
+    let roll = draw(cells, 4);
     if roll != 0 {
         return;
     }
-    damage(state, cells, setup);
+    damage(cells, setup);
 }

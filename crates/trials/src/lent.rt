@@ -1,17 +1,22 @@
-// The lent tables, all in one list of cells, each in room for the largest board and a few cells more.
+// The lent tables, each in room for the largest board and a few cells more: block numbers, counters, marks, words, main
+// memory, and the list of values. They stand twice in the cells; the model's are the wanted ones.
+use crate::board;
 use crate::board::BLOCKS;
 use crate::board::PROCESSORS;
+use crate::board::clear;
 use crate::board::counter;
 use crate::board::current;
 use crate::board::other_holder;
 use crate::board::owner;
 use crate::board::owns;
 use crate::board::set_counter;
-use crate::board::set_current;
 use crate::board::set_owner;
-use crate::board::set_stored;
-use crate::board::stored;
-use crate::cells::clear;
+use crate::cells::Cells;
+use crate::cells::LENGTHS;
+use crate::cells::REAL;
+use crate::cells::WANTED;
+use crate::cells::copy;
+use crate::cells::differences;
 use crate::cells::get;
 use crate::cells::less;
 use crate::cells::product;
@@ -22,7 +27,20 @@ use crate::cells::sum;
 use crate::cells::wipe;
 use protocol::Setup;
 
-// Where each table begins, and the cells of all. The block numbers begin at 0.
+// The tables' numbers. The pricer is lent the first three, starting and a trace the first five, a run all.
+pub const NUMBERS_TABLE: u32 = 0;
+
+pub const COUNTERS_TABLE: u32 = 1;
+
+pub const MARKS_TABLE: u32 = 2;
+
+pub const WORDS_TABLE: u32 = 3;
+
+pub const MEMORY_TABLE: u32 = 4;
+
+pub const VALUES_TABLE: u32 = 5;
+
+// Where each table begins after the first, and the cells of all.
 pub const COUNTERS: u32 = 520;
 
 pub const MARKS: u32 = 1040;
@@ -35,14 +53,34 @@ pub const VALUES: u32 = 13864;
 
 pub const CELLS: u32 = 14128;
 
-// The lengths at which the tables and the list of values are lent.
-pub struct Lengths {
-    pub blocks: u32,
-    pub counters: u32,
-    pub marks: u32,
-    pub words: u32,
-    pub memory: u32,
-    pub values: u32,
+// Where the model's tables begin, and the real ones that a look is about.
+const WANTED_COUNTERS: u32 = WANTED + COUNTERS;
+
+const WANTED_MARKS: u32 = WANTED + MARKS;
+
+const WANTED_WORDS: u32 = WANTED + WORDS;
+
+const WANTED_MEMORY: u32 = WANTED + MEMORY;
+
+const REAL_COUNTERS: u32 = REAL + COUNTERS;
+
+const REAL_WORDS: u32 = REAL + WORDS;
+
+// Where a table begins.
+pub(crate) fn table_place(table: u32) -> u32 {
+    match table {
+        0 => 0,
+        1 => COUNTERS,
+        2 => MARKS,
+        3 => WORDS,
+        4 => MEMORY,
+        _ => VALUES,
+    }
+}
+
+// The length at which a table is lent.
+pub(crate) fn length(cells: &Cells, table: u32) -> u32 {
+    get(cells, LENGTHS, table)
 }
 
 pub(crate) fn slots(setup: Setup) -> u32 {
@@ -53,71 +91,71 @@ pub(crate) fn variables(setup: Setup) -> u32 {
     product(setup.blocks, setup.words)
 }
 
-// The lengths that a setup, and a list of `values` requests, require.
-pub(crate) fn right_lengths(setup: Setup, values: u32) -> Lengths {
-    let lines = slots(setup);
-    Lengths {
-        blocks: lines,
-        counters: lines,
-        marks: lines,
-        words: product(lines, setup.words),
-        memory: variables(setup),
-        values: values,
+// The length of a table that a setup, and a list of `values` requests, require.
+fn right_length(setup: Setup, values: u32, table: u32) -> u32 {
+    match table {
+        0 | 1 | 2 => slots(setup),
+        3 => product(slots(setup), setup.words),
+        4 => variables(setup),
+        _ => values,
     }
+}
+
+// All lengths become right.
+pub(crate) fn put_lengths(cells: &mut Cells, setup: Setup, values: u32) {
+    let mut table = 0;
+    while table < 6 {
+        put(cells, LENGTHS, table, right_length(setup, values, table));
+        table += 1;
+    }
+}
+
+fn outside(x: u32, most: u32) -> bool {
+    x == 0 || x > most
 }
 
 // Condition 1.
 pub(crate) fn setup_wrong(setup: Setup) -> bool {
-    if setup.processors == 0 || setup.processors > 8 {
+    if outside(setup.processors, 8) {
         return true;
     }
-    if setup.lines == 0 || setup.lines > 64 {
+    if outside(setup.lines, 64) {
         return true;
     }
-    if setup.words == 0 || setup.words > 16 {
+    if outside(setup.words, 16) {
         return true;
     }
-    setup.blocks == 0 || setup.blocks > 256
+    outside(setup.blocks, 256)
 }
 
-// Condition 2, of the five tables.
-pub(crate) fn lengths_wrong(setup: Setup, lengths: Lengths) -> bool {
-    let right = right_lengths(setup, 0);
-    if lengths.blocks != right.blocks {
-        return true;
-    }
-    if lengths.counters != right.counters {
-        return true;
-    }
-    if lengths.marks != right.marks {
-        return true;
-    }
-    if lengths.words != right.words {
-        return true;
-    }
-    lengths.memory != right.memory
+pub(crate) fn length_wrong(cells: &Cells, setup: Setup, values: u32, table: u32) -> bool {
+    length(cells, table) != right_length(setup, values, table)
 }
 
-fn load_variable(facts: &mut [u32], tables: &[u32], v: u32) {
-    let x = get(tables, sum(MEMORY, v));
-    set_stored(facts, v, x);
-    set_current(facts, v, x);
+// Condition 2, of the first n tables.
+pub(crate) fn lengths_wrong(cells: &Cells, setup: Setup, values: u32, n: u32) -> bool {
+    let mut table = 0;
+    while table < n {
+        if length_wrong(cells, setup, values, table) {
+            return true;
+        }
+        table += 1;
+    }
+    false
 }
 
-fn load_memory(facts: &mut [u32], tables: &[u32], n: u32) {
-    let mut v = 0;
-    while v < n {
-        load_variable(facts, tables, v);
-        v += 1;
-    }
+// The n variables are in main memory, and current.
+fn load_memory(cells: &mut Cells, n: u32) {
+    copy(cells, WANTED_MEMORY, board::MEMORY, n);
+    copy(cells, WANTED_MEMORY, board::CURRENT, n);
 }
 
 // How many of the n cells from `first` on are not 0.
-fn filled(tables: &[u32], first: u32, n: u32) -> u32 {
+fn filled(cells: &Cells, first: u32, n: u32) -> u32 {
     let mut count = 0;
     let mut k = 0;
     while k < n {
-        if get(tables, sum(first, k)) != 0 {
+        if get(cells, first, k) != 0 {
             count = sum(count, 1);
         }
         k += 1;
@@ -125,125 +163,126 @@ fn filled(tables: &[u32], first: u32, n: u32) -> u32 {
     count
 }
 
+// Where the words of slot k stand.
+fn words_place(k: u32, p: u32) -> u32 {
+    sum(WANTED_WORDS, product(k, p))
+}
+
 // How many of the p words of slot k are not those of block b in main memory.
-fn unlike_memory(tables: &[u32], k: u32, b: u32, p: u32) -> u32 {
-    let first = sum(WORDS, product(k, p));
-    let home = sum(MEMORY, product(b, p));
-    let mut count = 0;
-    let mut o = 0;
-    while o < p {
-        if get(tables, sum(first, o)) != get(tables, sum(home, o)) {
-            count = sum(count, 1);
-        }
-        o += 1;
-    }
-    count
+fn unlike_memory(cells: &Cells, k: u32, b: u32, p: u32) -> u32 {
+    let home = sum(WANTED_MEMORY, product(b, p));
+    differences(cells, words_place(k, p), home, p)
 }
 
 // The words of slot k become the current values of block b.
-fn load_words(facts: &mut [u32], tables: &[u32], k: u32, b: u32, p: u32) {
-    let first = sum(WORDS, product(k, p));
-    let v = product(b, p);
-    let mut o = 0;
-    while o < p {
-        set_current(facts, sum(v, o), get(tables, sum(first, o)));
-        o += 1;
-    }
+fn load_words(cells: &mut Cells, k: u32, b: u32, p: u32) {
+    copy(
+        cells,
+        words_place(k, p),
+        sum(board::CURRENT, product(b, p)),
+        p,
+    );
 }
 
 // An empty line: how many of its cells are not 0.
-fn empty_faults(tables: &[u32], k: u32, p: u32) -> u32 {
-    let block = filled(tables, k, 1);
-    let mark = filled(tables, sum(MARKS, k), 1);
-    let words = filled(tables, sum(WORDS, product(k, p)), p);
+fn empty_faults(cells: &Cells, k: u32, p: u32) -> u32 {
+    let block = filled(cells, sum(WANTED, k), 1);
+    let mark = filled(cells, sum(WANTED_MARKS, k), 1);
+    let words = filled(cells, words_place(k, p), p);
     sum(sum(block, mark), words)
 }
 
 // A marked copy in slot k, of processor i: its words are the current ones. A second mark is a fault.
-fn load_marked(facts: &mut [u32], tables: &[u32], k: u32, i: u32, b: u32, p: u32) -> u32 {
-    if owner(facts, b) != 0 {
+fn load_marked(cells: &mut Cells, k: u32, i: u32, b: u32, p: u32) -> u32 {
+    if owner(cells, b) != 0 {
         return 1;
     }
-    set_owner(facts, b, sum(i, 1));
-    load_words(facts, tables, k, b, p);
+    set_owner(cells, b, sum(i, 1));
+    load_words(cells, k, b, p);
     0
 }
 
 // What slot k shows of block b, in its proper line, becomes a fact: its faults.
-fn load_copy(facts: &mut [u32], tables: &[u32], setup: Setup, k: u32, b: u32) -> u32 {
+fn load_copy(cells: &mut Cells, setup: Setup, k: u32, b: u32) -> u32 {
     let i = quotient(k, setup.lines);
-    set_counter(facts, i, b, get(tables, sum(COUNTERS, k)));
-    let mark = get(tables, sum(MARKS, k));
+    let held = get(cells, WANTED_COUNTERS, k);
+    set_counter(cells, i, b, held);
+    let mark = get(cells, WANTED_MARKS, k);
     if mark == 0 {
-        return unlike_memory(tables, k, b, setup.words);
+        return unlike_memory(cells, k, b, setup.words);
     }
     if mark > 1 {
         return 1;
     }
-    load_marked(facts, tables, k, i, b, setup.words)
+    load_marked(cells, k, i, b, setup.words)
+}
+
+// Whether slot k, which is not empty, has a counter over p, or a block that may not stand there.
+fn slot_wrong(cells: &Cells, setup: Setup, k: u32) -> bool {
+    if get(cells, WANTED_COUNTERS, k) > setup.words {
+        return true;
+    }
+    let b = get(cells, WANTED, k);
+    if b >= setup.blocks {
+        return true;
+    }
+    remainder(b, setup.lines) != remainder(k, setup.lines)
 }
 
 // The faults of slot k.
-fn load_slot(facts: &mut [u32], tables: &[u32], setup: Setup, k: u32) -> u32 {
-    let held = get(tables, sum(COUNTERS, k));
-    if held == 0 {
-        return empty_faults(tables, k, setup.words);
+fn load_slot(cells: &mut Cells, setup: Setup, k: u32) -> u32 {
+    if get(cells, WANTED_COUNTERS, k) == 0 {
+        return empty_faults(cells, k, setup.words);
     }
-    if held > setup.words {
+    if slot_wrong(cells, setup, k) {
         return 1;
     }
-    let b = get(tables, k);
-    if b >= setup.blocks {
-        return 1;
-    }
-    if remainder(b, setup.lines) != remainder(k, setup.lines) {
-        return 1;
-    }
-    load_copy(facts, tables, setup, k, b)
+    let b = get(cells, WANTED, k);
+    load_copy(cells, setup, k, b)
 }
 
-fn load_slots(facts: &mut [u32], tables: &[u32], setup: Setup, n: u32) -> u32 {
+fn load_slots(cells: &mut Cells, setup: Setup, n: u32) -> u32 {
     let mut faults = 0;
     let mut k = 0;
     while k < n {
-        faults = sum(faults, load_slot(facts, tables, setup, k));
+        faults = sum(faults, load_slot(cells, setup, k));
         k += 1;
     }
     faults
 }
 
 // A marked block has counter p and one holder.
-fn block_faults(facts: &[u32], p: u32, b: u32) -> u32 {
-    let marked = owner(facts, b);
+fn block_faults(cells: &Cells, p: u32, b: u32) -> u32 {
+    let marked = owner(cells, b);
     if marked == 0 {
         return 0;
     }
     let i = less(marked, 1);
-    if counter(facts, i, b) != p {
+    if counter(cells, i, b) != p {
         return 1;
     }
-    if other_holder(facts, i, b) < PROCESSORS {
+    if other_holder(cells, i, b) < PROCESSORS {
         return 1;
     }
     0
 }
 
-fn all_block_faults(facts: &[u32], p: u32) -> u32 {
+fn all_block_faults(cells: &Cells, p: u32) -> u32 {
     let mut faults = 0;
     let mut b = 0;
     while b < BLOCKS {
-        faults = sum(faults, block_faults(facts, p, b));
+        faults = sum(faults, block_faults(cells, p, b));
         b += 1;
     }
     faults
 }
 
 // The facts become what the tables show. How many faults the tables have: none if they are sound.
-pub(crate) fn load(facts: &mut [u32], tables: &[u32], setup: Setup) -> u32 {
-    clear(facts);
-    load_memory(facts, tables, variables(setup));
-    let faults = load_slots(facts, tables, setup, slots(setup));
-    sum(faults, all_block_faults(facts, setup.words))
+pub(crate) fn load(cells: &mut Cells, setup: Setup) -> u32 {
+    clear(cells);
+    load_memory(cells, variables(setup));
+    let faults = load_slots(cells, setup, slots(setup));
+    sum(faults, all_block_faults(cells, setup.words))
 }
 
 // The slot of block b in processor i's cache.
@@ -252,121 +291,111 @@ fn slot(setup: Setup, i: u32, b: u32) -> u32 {
 }
 
 // The line of processor i's copy of block b, if it has one. A mark is 1.
-fn lay_line(facts: &[u32], tables: &mut [u32], setup: Setup, i: u32, b: u32) {
-    let held = counter(facts, i, b);
+fn lay_line(cells: &mut Cells, setup: Setup, i: u32, b: u32) {
+    let held = counter(cells, i, b);
     if held == 0 {
         return;
     }
+    let marked = owns(cells, i, b) as u32;
     let k = slot(setup, i, b);
-    put(tables, k, b);
-    put(tables, sum(COUNTERS, k), held);
-    put(tables, sum(MARKS, k), owns(facts, i, b) as u32);
+    put(cells, WANTED, k, b);
+    put(cells, WANTED_COUNTERS, k, held);
+    put(cells, WANTED_MARKS, k, marked);
 }
 
-// The lines of processor i.
-fn lay_cache(facts: &[u32], tables: &mut [u32], setup: Setup, i: u32) {
-    let mut b = 0;
-    while b < BLOCKS {
-        lay_line(facts, tables, setup, i, b);
-        b += 1;
+// Block numbers, counters and marks, which were 0: for each processor and block.
+pub(crate) fn lay_lines(cells: &mut Cells, setup: Setup) {
+    let mut k = 0;
+    while k < 2048 {
+        lay_line(cells, setup, k / BLOCKS, k % BLOCKS);
+        k += 1;
     }
 }
 
-fn lay_caches(facts: &[u32], tables: &mut [u32], setup: Setup) {
-    let mut i = 0;
-    while i < PROCESSORS {
-        lay_cache(facts, tables, setup, i);
-        i += 1;
-    }
+fn wipe_table(cells: &mut Cells, table: u32) {
+    let n = length(cells, table);
+    wipe(cells, sum(WANTED, table_place(table)), n);
 }
 
-// Block numbers, counters and marks are laid out anew.
-pub(crate) fn lay_lines(facts: &[u32], tables: &mut [u32], setup: Setup) {
-    let n = slots(setup);
-    wipe(tables, 0, n);
-    wipe(tables, COUNTERS, n);
-    wipe(tables, MARKS, n);
-    lay_caches(facts, tables, setup);
+// The first n tables, as long as they are lent, become 0.
+pub(crate) fn wipe_tables(cells: &mut Cells, n: u32) {
+    let mut table = 0;
+    while table < n {
+        wipe_table(cells, table);
+        table += 1;
+    }
 }
 
 // Word w of the words of all lines: 0 in an empty line.
-fn lay_word(facts: &[u32], tables: &mut [u32], p: u32, w: u32) {
+fn word_wanted(cells: &Cells, p: u32, w: u32) -> u32 {
     let k = quotient(w, p);
-    if get(tables, sum(COUNTERS, k)) == 0 {
-        put(tables, sum(WORDS, w), 0);
-        return;
+    if get(cells, WANTED_COUNTERS, k) == 0 {
+        return 0;
     }
-    let v = sum(product(get(tables, k), p), remainder(w, p));
-    put(tables, sum(WORDS, w), current(facts, v));
+    let b = get(cells, WANTED, k);
+    current(cells, sum(product(b, p), remainder(w, p)))
 }
 
-fn lay_words(facts: &[u32], tables: &mut [u32], p: u32, n: u32) {
+fn lay_word(cells: &mut Cells, p: u32, w: u32) {
+    let x = word_wanted(cells, p, w);
+    put(cells, WANTED_WORDS, w, x);
+}
+
+fn lay_words(cells: &mut Cells, p: u32, n: u32) {
     let mut w = 0;
     while w < n {
-        lay_word(facts, tables, p, w);
+        lay_word(cells, p, w);
         w += 1;
     }
 }
 
-fn lay_memory(facts: &[u32], tables: &mut [u32], n: u32) {
-    let mut v = 0;
-    while v < n {
-        put(tables, sum(MEMORY, v), stored(facts, v));
-        v += 1;
-    }
-}
-
-// The tables become what the facts say.
-pub(crate) fn lay_out(facts: &[u32], tables: &mut [u32], setup: Setup) {
-    lay_lines(facts, tables, setup);
-    lay_words(
-        facts,
-        tables,
-        setup.words,
-        product(slots(setup), setup.words),
-    );
-    lay_memory(facts, tables, variables(setup));
+// The tables become what the facts say. They are lent at the right lengths.
+pub(crate) fn lay_out(cells: &mut Cells, setup: Setup) {
+    wipe_tables(cells, 3);
+    lay_lines(cells, setup);
+    lay_words(cells, setup.words, product(slots(setup), setup.words));
+    copy(cells, board::MEMORY, WANTED_MEMORY, variables(setup));
 }
 
 // Starting, over lent tables, which become what they should be after it: the refusal number, or 0.
-pub(crate) fn start(tables: &mut [u32], setup: Setup, lengths: Lengths) -> u32 {
+pub(crate) fn start(cells: &mut Cells, setup: Setup) -> u32 {
     if setup_wrong(setup) {
         return 1;
     }
-    if lengths_wrong(setup, lengths) {
+    if lengths_wrong(cells, setup, 0, 5) {
         return 2;
     }
-    wipe(tables, 0, lengths.blocks);
-    wipe(tables, COUNTERS, lengths.counters);
-    wipe(tables, MARKS, lengths.marks);
-    wipe(tables, WORDS, lengths.words);
-    wipe(tables, MEMORY, lengths.memory);
+    wipe_tables(cells, 5);
     0
 }
 
-// Whether a look at block b of processor i shows it. Lengths of marks and memory play no part.
-pub(crate) fn shows(tables: &[u32], setup: Setup, lengths: Lengths, i: u32, b: u32) -> bool {
+// Whether the tables that a look is lent, at a right setup, have other lengths. Those of marks and memory play no part.
+fn look_lengths_wrong(cells: &Cells, setup: Setup) -> bool {
+    if lengths_wrong(cells, setup, 0, 2) {
+        return true;
+    }
+    length_wrong(cells, setup, 0, WORDS_TABLE)
+}
+
+// Whether a look at block b of processor i shows it, in the real tables.
+pub(crate) fn shows(cells: &Cells, setup: Setup, i: u32, b: u32) -> bool {
     if setup_wrong(setup) {
         return false;
     }
-    let right = right_lengths(setup, 0);
-    if lengths.blocks != right.blocks || lengths.counters != right.counters {
-        return false;
-    }
-    if lengths.words != right.words {
+    if look_lengths_wrong(cells, setup) {
         return false;
     }
     if i >= setup.processors || b >= setup.blocks {
         return false;
     }
     let k = slot(setup, i, b);
-    if get(tables, sum(COUNTERS, k)) == 0 {
+    if get(cells, REAL_COUNTERS, k) == 0 {
         return false;
     }
-    get(tables, k) == b
+    get(cells, REAL, k) == b
 }
 
-// Where the words of block b stand, in processor i's cache.
-pub(crate) fn words_at(setup: Setup, i: u32, b: u32) -> u32 {
-    sum(WORDS, product(slot(setup, i, b), setup.words))
+// Where the words of block b stand, in processor i's cache, in the real tables.
+pub(crate) fn shown_place(setup: Setup, i: u32, b: u32) -> u32 {
+    sum(REAL_WORDS, product(slot(setup, i, b), setup.words))
 }

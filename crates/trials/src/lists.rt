@@ -1,4 +1,7 @@
 // Lists of requests, four numbers each.
+use crate::cells::Cells;
+use crate::cells::REQUESTS;
+use crate::cells::get;
 use crate::cells::less;
 use crate::cells::product;
 use crate::cells::put;
@@ -8,27 +11,58 @@ use crate::state::draw;
 use crate::state::word;
 use protocol::Setup;
 
+// A request. Only the number 1 stands for a write.
+pub struct Request {
+    pub processor: u32,
+    pub write: bool,
+    pub variable: u32,
+    pub value: u32,
+}
+
+fn request_place(t: u32) -> u32 {
+    sum(REQUESTS, product(t, 4))
+}
+
+// Request t of the list.
+pub(crate) fn request_at(cells: &Cells, t: u32) -> Request {
+    let first = request_place(t);
+    Request {
+        processor: get(cells, first, 0),
+        write: get(cells, first, 1) == 1,
+        variable: get(cells, first, 2),
+        value: get(cells, first, 3),
+    }
+}
+
+// The first variable of a block that shares a line with block 0: block number `turn` of these, in turn.
+fn sharing(setup: Setup, turn: u32) -> u32 {
+    product(
+        remainder(product(setup.lines, turn), setup.blocks),
+        setup.words,
+    )
+}
+
 // A variable: anywhere, in the first blocks, in blocks that share a line, or in the last block.
-fn pick_variable(state: &mut [u32], setup: Setup) -> u32 {
+fn pick_variable(cells: &mut Cells, setup: Setup) -> u32 {
     let p = setup.words;
     let all = product(setup.blocks, p);
-    let shape = draw(state, 4);
-    let any = draw(state, all);
-    let near = remainder(draw(state, product(p, 2)), all);
-    let offset = draw(state, p);
-    let sharing = remainder(product(setup.lines, draw(state, 4)), setup.blocks);
+    let shape = draw(cells, 4);
+    let any = draw(cells, all);
+    let near = draw(cells, product(p, 2));
+    let offset = draw(cells, p);
+    let turn = draw(cells, 4);
     match shape {
         0 => any,
-        1 => near,
-        2 => sum(product(sharing, p), offset),
+        1 => remainder(near, all),
+        2 => sum(sharing(setup, turn), offset),
         _ => less(all, sum(offset, 1)),
     }
 }
 
 // x, or once in `wild` times a number that is not below `bound`; never if `wild` is 0.
-fn perhaps_over(state: &mut [u32], x: u32, bound: u32, wild: u32) -> u32 {
-    let roll = draw(state, wild);
-    let past = draw(state, 4);
+fn perhaps_over(cells: &mut Cells, x: u32, bound: u32, wild: u32) -> u32 {
+    let roll = draw(cells, wild);
+    let past = draw(cells, 4);
     if wild == 0 || roll != 0 {
         return x;
     }
@@ -39,8 +73,8 @@ fn perhaps_over(state: &mut [u32], x: u32, bound: u32, wild: u32) -> u32 {
 }
 
 // Half of the requests write; of the others some say so by a number that is not 0.
-fn pick_operation(state: &mut [u32]) -> u32 {
-    let roll = draw(state, 8);
+fn pick_operation(cells: &mut Cells) -> u32 {
+    let roll = draw(cells, 8);
     match roll {
         0 | 1 | 2 => 0,
         3 => 2,
@@ -49,66 +83,54 @@ fn pick_operation(state: &mut [u32]) -> u32 {
     }
 }
 
-fn put_request(
-    requests: &mut [u32],
-    t: u32,
-    processor: u32,
-    operation: u32,
-    variable: u32,
-    x: u32,
-) {
-    let first = product(t, 4);
-    put(requests, first, processor);
-    put(requests, sum(first, 1), operation);
-    put(requests, sum(first, 2), variable);
-    put(requests, sum(first, 3), x);
+fn put_request(cells: &mut Cells, t: u32, processor: u32, operation: u32, variable: u32, x: u32) {
+    let first = request_place(t);
+    put(cells, first, 0, processor);
+    put(cells, first, 1, operation);
+    put(cells, first, 2, variable);
+    put(cells, first, 3, x);
 }
 
-fn pick_request(state: &mut [u32], requests: &mut [u32], setup: Setup, t: u32, wild: u32) {
-    let i = draw(state, setup.processors);
-    let v = pick_variable(state, setup);
-    let operation = pick_operation(state);
-    let x = word(state);
-    let processor = perhaps_over(state, i, setup.processors, wild);
-    let variable = perhaps_over(state, v, product(setup.blocks, setup.words), wild);
-    put_request(requests, t, processor, operation, variable, x);
+fn pick_request(cells: &mut Cells, setup: Setup, t: u32, wild: u32) {
+    let i = draw(cells, setup.processors);
+    let v = pick_variable(cells, setup);
+    let operation = pick_operation(cells);
+    let x = word(cells);
+    let processor = perhaps_over(cells, i, setup.processors, wild);
+    let variable = perhaps_over(cells, v, product(setup.blocks, setup.words), wild);
+    put_request(cells, t, processor, operation, variable, x);
 }
 
 // n requests. Each number of one is out of range once in `wild` times.
-pub(crate) fn pick_requests(
-    state: &mut [u32],
-    requests: &mut [u32],
-    setup: Setup,
-    n: u32,
-    wild: u32,
-) {
+pub(crate) fn pick_requests(cells: &mut Cells, setup: Setup, n: u32, wild: u32) {
     let mut t = 0;
     while t < n {
-        pick_request(state, requests, setup, t, wild);
+        pick_request(cells, setup, t, wild);
         t += 1;
     }
 }
 
-fn tight_request(state: &mut [u32], requests: &mut [u32], p: u32, t: u32) {
-    let turn = remainder(less(t, 2), sum(p, 1));
-    let x = word(state);
+// Whether request t is a read by processor 1, once in p + 1 times after the first two.
+fn reads_again(p: u32, t: u32) -> bool {
+    remainder(less(t, 2), sum(p, 1)) == p
+}
+
+fn tight_request(cells: &mut Cells, p: u32, t: u32) {
+    let x = word(cells);
     if t < 2 {
-        put_request(requests, t, t, 0, 0, x);
+        put_request(cells, t, t, 0, 0, x);
         return;
     }
-    if turn == p {
-        put_request(requests, t, 1, 0, 0, x);
-        return;
-    }
-    put_request(requests, t, 0, 1, 0, x);
+    let again = reads_again(p, t);
+    put_request(cells, t, again as u32, !again as u32, 0, x);
 }
 
 // Variable 0 is read by 0 and by 1, and then written p times by 0 and read by 1, over and over: a rival that keeps both
 // copies pays about half of what the engine does.
-pub(crate) fn tight_requests(state: &mut [u32], requests: &mut [u32], p: u32, n: u32) {
+pub(crate) fn tight_requests(cells: &mut Cells, p: u32, n: u32) {
     let mut t = 0;
     while t < n {
-        tight_request(state, requests, p, t);
+        tight_request(cells, p, t);
         t += 1;
     }
 }

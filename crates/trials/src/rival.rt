@@ -1,20 +1,22 @@
 // A rival's schedule, played over facts by processor and block: a counter is 1 where the rival has a copy.
 use crate::board::BLOCKS;
 use crate::board::PROCESSORS;
+use crate::board::clear;
 use crate::board::counter;
 use crate::board::in_the_way;
 use crate::board::other_holder;
 use crate::board::owns;
 use crate::board::set_counter;
 use crate::board::set_owner;
-use crate::cells::clear;
+use crate::cells::Cells;
+use crate::cells::ENTRIES;
 use crate::cells::get;
 use crate::cells::product;
+use crate::cells::put;
 use crate::cells::quotient;
 use crate::cells::sum;
-use crate::cells::wipe;
 use crate::lent;
-use crate::lent::Lengths;
+use crate::lists::request_at;
 use crate::served::named_wrongly;
 use protocol::Setup;
 
@@ -62,26 +64,18 @@ fn refused(play: Play, refusal: u32, place: u32) -> Play {
     }
 }
 
-fn paid(play: Play, cost: u32) -> Play {
+// The schedule with an entry more, which completed a request or not.
+fn paid(play: Play, cost: u32, completed: bool) -> Play {
     Play {
         cost: sum(play.cost, cost),
-        done: play.done,
-        refusal: 0,
-        place: 0,
-    }
-}
-
-fn completed(play: Play, cost: u32) -> Play {
-    Play {
-        cost: sum(play.cost, cost),
-        done: sum(play.done, 1),
+        done: sum(play.done, completed as u32),
         refusal: 0,
         place: 0,
     }
 }
 
 // 3, 8, then 23, or 24 and 25.
-fn move_refusal(facts: &[u32], setup: Setup, entry: Move) -> u32 {
+fn move_refusal(cells: &Cells, setup: Setup, entry: Move) -> u32 {
     let i = entry.processor;
     let b = entry.block;
     if i >= setup.processors {
@@ -91,16 +85,16 @@ fn move_refusal(facts: &[u32], setup: Setup, entry: Move) -> u32 {
         return 8;
     }
     if entry.kind == FETCH {
-        if in_the_way(facts, setup.lines, i, b) < BLOCKS {
+        if in_the_way(cells, setup.lines, i, b) < BLOCKS {
             return 23;
         }
         return 0;
     }
-    if counter(facts, i, b) == 0 {
+    if counter(cells, i, b) == 0 {
         return 24;
     }
     if entry.kind == DROP {
-        if owns(facts, i, b) {
+        if owns(cells, i, b) {
             return 25;
         }
     }
@@ -108,81 +102,73 @@ fn move_refusal(facts: &[u32], setup: Setup, entry: Move) -> u32 {
 }
 
 // A fetch, a write-back or a drop, which nothing refuses: its cost.
-fn moved(facts: &mut [u32], p: u32, entry: Move) -> u32 {
+fn moved(cells: &mut Cells, p: u32, entry: Move) -> u32 {
     let i = entry.processor;
     let b = entry.block;
     if entry.kind == DROP {
-        set_counter(facts, i, b, 0);
+        set_counter(cells, i, b, 0);
         return 0;
     }
-    set_owner(facts, b, 0);
-    set_counter(facts, i, b, 1);
+    set_owner(cells, b, 0);
+    set_counter(cells, i, b, 1);
     p
 }
 
-fn play_move(facts: &mut [u32], setup: Setup, entry: Move, place: u32, play: Play) -> Play {
-    let refusal = move_refusal(facts, setup, entry);
-    if refusal != 0 {
-        return refused(play, refusal, place);
-    }
-    let cost = moved(facts, setup.words, entry);
-    paid(play, cost)
-}
-
 // The cost of a write by processor i, which has block b: alone it marks the block.
-fn written(facts: &mut [u32], i: u32, b: u32, broadcast: bool) -> u32 {
+fn written(cells: &mut Cells, i: u32, b: u32, broadcast: bool) -> u32 {
     if broadcast {
         return 1;
     }
-    if other_holder(facts, i, b) < PROCESSORS {
+    if other_holder(cells, i, b) < PROCESSORS {
         return 1;
     }
-    set_owner(facts, b, sum(i, 1));
+    set_owner(cells, b, sum(i, 1));
     0
 }
 
-// 26, 3, 4, 9 and 27, and then the completion of the next of n requests.
-fn play_completion(
-    facts: &mut [u32],
-    setup: Setup,
-    requests: &[u32],
-    n: u32,
-    broadcast: bool,
-    place: u32,
-    play: Play,
-) -> Play {
-    if play.done >= n {
-        return refused(play, 26, place);
+// 26, 3, 4, 9 and 27, of the completion of request t of n.
+fn completion_refusal(cells: &Cells, setup: Setup, n: u32, t: u32, broadcast: bool) -> u32 {
+    if t >= n {
+        return 26;
     }
-    let first = product(play.done, 4);
-    let i = get(requests, first);
-    let v = get(requests, sum(first, 2));
-    let named = named_wrongly(setup, i, v);
+    let request = request_at(cells, t);
+    let named = named_wrongly(setup, request.processor, request.variable);
     if named != 0 {
-        return refused(play, named, place);
+        return named;
     }
-    let write = get(requests, sum(first, 1)) == 1;
     if broadcast {
-        if !write {
-            return refused(play, 9, place);
+        if !request.write {
+            return 9;
         }
     }
-    let b = quotient(v, setup.words);
-    if counter(facts, i, b) == 0 {
-        return refused(play, 27, place);
+    let b = quotient(request.variable, setup.words);
+    if counter(cells, request.processor, b) == 0 {
+        return 27;
     }
-    if !write {
-        return completed(play, 0);
-    }
-    let cost = written(facts, i, b, broadcast);
-    completed(play, cost)
+    0
 }
 
-// Plays one entry; after a refusal nothing changes.
+fn entry_refusal(cells: &Cells, setup: Setup, n: u32, t: u32, entry: Move) -> u32 {
+    if entry.kind < COMPLETE {
+        return move_refusal(cells, setup, entry);
+    }
+    completion_refusal(cells, setup, n, t, entry.kind != COMPLETE)
+}
+
+// The completion of request t, which nothing refuses: its cost.
+fn complete(cells: &mut Cells, p: u32, t: u32, broadcast: bool) -> u32 {
+    let request = request_at(cells, t);
+    if !request.write {
+        return 0;
+    }
+    let b = quotient(request.variable, p);
+    written(cells, request.processor, b, broadcast)
+}
+
+// Plays one entry, for n requests; after a refusal nothing changes.
 pub(crate) fn play_entry(
-    facts: &mut [u32],
+    cells: &mut Cells,
     setup: Setup,
-    requests: &[u32],
     n: u32,
     entry: Move,
     place: u32,
@@ -191,35 +177,50 @@ pub(crate) fn play_entry(
     if play.refusal != 0 {
         return play;
     }
+    let refusal = entry_refusal(cells, setup, n, play.done, entry);
+    if refusal != 0 {
+        return refused(play, refusal, place);
+    }
     if entry.kind < COMPLETE {
-        return play_move(facts, setup, entry, place, play);
+        let cost = moved(cells, setup.words, entry);
+        return paid(play, cost, false);
     }
-    let broadcast = entry.kind != COMPLETE;
-    play_completion(facts, setup, requests, n, broadcast, place, play)
+    let cost = complete(cells, setup.words, play.done, entry.kind != COMPLETE);
+    paid(play, cost, true)
 }
 
-// Entry t of a list of three numbers each.
-pub(crate) fn entry_at(entries: &[u32], t: u32) -> Move {
-    let first = product(t, 3);
+fn entry_place(t: u32) -> u32 {
+    sum(ENTRIES, product(t, 3))
+}
+
+// Entry t of the list, of three numbers each.
+fn entry_at(cells: &Cells, t: u32) -> Move {
+    let first = entry_place(t);
     Move {
-        kind: get(entries, first),
-        processor: get(entries, sum(first, 1)),
-        block: get(entries, sum(first, 2)),
+        kind: get(cells, first, 0),
+        processor: get(cells, first, 1),
+        block: get(cells, first, 2),
     }
 }
 
-fn play_all(
-    facts: &mut [u32],
-    setup: Setup,
-    entries: &[u32],
-    count: u32,
-    requests: &[u32],
-    n: u32,
-) -> Play {
+pub(crate) fn put_entry(cells: &mut Cells, t: u32, entry: Move) {
+    let first = entry_place(t);
+    put(cells, first, 0, entry.kind);
+    put(cells, first, 1, entry.processor);
+    put(cells, first, 2, entry.block);
+}
+
+// Plays entry t of the list.
+fn play_next(cells: &mut Cells, setup: Setup, n: u32, t: u32, play: Play) -> Play {
+    let entry = entry_at(cells, t);
+    play_entry(cells, setup, n, entry, t, play)
+}
+
+fn play_all(cells: &mut Cells, setup: Setup, count: u32, n: u32) -> Play {
     let mut play = new_play();
     let mut t = 0;
     while t < count {
-        play = play_entry(facts, setup, requests, n, entry_at(entries, t), t, play);
+        play = play_next(cells, setup, n, t, play);
         t += 1;
     }
     play
@@ -236,48 +237,30 @@ fn ended(play: Play, count: u32, n: u32) -> Play {
     play
 }
 
-// Condition 2, of the pricer's three tables.
-fn lengths_wrong(setup: Setup, lengths: Lengths) -> bool {
-    let n = lent::slots(setup);
-    if lengths.blocks != n {
-        return true;
+// 1 and 2, of the pricer's three tables.
+fn price_refusal(cells: &Cells, setup: Setup) -> u32 {
+    if lent::setup_wrong(setup) {
+        return 1;
     }
-    if lengths.counters != n {
-        return true;
+    if lent::lengths_wrong(cells, setup, 0, 3) {
+        return 2;
     }
-    lengths.marks != n
+    0
 }
 
 // The price of a schedule of `count` entries for n requests, both too few for 5. The lent tables become what they should
-// be after it.
-pub(crate) fn price(
-    facts: &mut [u32],
-    tables: &mut [u32],
-    setup: Setup,
-    lengths: Lengths,
-    entries: &[u32],
-    count: u32,
-    requests: &[u32],
-    n: u32,
-) -> Play {
-    if lent::setup_wrong(setup) {
-        return refused(new_play(), 1, 0);
+// be after it: the rival's position, or 0 after a refusal.
+pub(crate) fn price(cells: &mut Cells, setup: Setup, count: u32, n: u32) -> Play {
+    let refusal = price_refusal(cells, setup);
+    if refusal != 0 {
+        return refused(new_play(), refusal, 0);
     }
-    if lengths_wrong(setup, lengths) {
-        return refused(new_play(), 2, 0);
-    }
-    clear(facts);
-    let play = ended(
-        play_all(facts, setup, entries, count, requests, n),
-        count,
-        n,
-    );
-    if play.refusal == 0 {
-        lent::lay_lines(facts, tables, setup);
+    clear(cells);
+    lent::wipe_tables(cells, 3);
+    let play = ended(play_all(cells, setup, count, n), count, n);
+    if play.refusal != 0 {
         return play;
     }
-    wipe(tables, 0, lengths.blocks);
-    wipe(tables, lent::COUNTERS, lengths.counters);
-    wipe(tables, lent::MARKS, lengths.marks);
+    lent::lay_lines(cells, setup);
     play
 }

@@ -1,9 +1,12 @@
 // Starting, runs and looks.
 use crate::asked;
+use crate::asked::Answer;
 use crate::asked::Shown;
+use crate::cells::Cells;
+use crate::cells::REAL;
+use crate::cells::WANTED;
 use crate::cells::copy;
-use crate::cells::first_difference;
-use crate::cells::get;
+use crate::cells::differences;
 use crate::cells::less;
 use crate::cells::product;
 use crate::cells::put;
@@ -11,7 +14,6 @@ use crate::cells::quotient;
 use crate::cells::sum;
 use crate::damage;
 use crate::lent;
-use crate::lent::Lengths;
 use crate::lists;
 use crate::served;
 use crate::served::Outcome;
@@ -19,135 +21,38 @@ use crate::setups;
 use crate::state;
 use crate::state::draw;
 use crate::state::word;
-use numbers::Ran;
 use protocol::Account;
 use protocol::Setup;
 
-// Every cell gets a number of its own.
-fn scatter(cells: &mut [u32], from: u32) {
+const REAL_MEMORY: u32 = REAL + lent::MEMORY;
+
+// The n cells from `first` on get a number each, counted from `from`.
+fn scatter(cells: &mut Cells, first: u32, n: u32, from: u32) {
     let mut k = 0;
-    while k < lent::CELLS {
-        put(cells, k, sum(from, k));
+    while k < n {
+        put(cells, first, k, sum(from, k));
         k += 1;
     }
 }
 
-// Whether all cells are the model's.
-pub(crate) fn buffers_differ(real: &[u32], wanted: &[u32]) -> bool {
-    first_difference(real, wanted, lent::CELLS) < lent::CELLS
+// The model works on tables that are the real ones so far.
+pub(crate) fn copy_tables(cells: &mut Cells) {
+    copy(cells, REAL, WANTED, lent::CELLS);
 }
 
-// The setup and the lengths that an entry is given.
-pub struct Lending {
-    pub setup: Setup,
-    pub lengths: Lengths,
-}
-
-// A right setup for a new case.
-pub(crate) fn new_setup(state: &mut [u32]) -> Setup {
-    state::begin(state);
-    setups::pick_setup(state)
-}
-
-// A setup and its lengths for a list of n requests: the setup is wrong once in `setup_every` times, a length once in
-// `length_every` times.
-pub(crate) fn pick_lending(
-    state: &mut [u32],
-    right: Setup,
-    n: u32,
-    setup_every: u32,
-    length_every: u32,
-) -> Lending {
-    let setup = setups::perhaps_wrong_setup(state, right, setup_every);
-    let wrong = setups::perhaps_wrong_lengths(state, lent::right_lengths(right, n), length_every);
-    Lending {
-        setup: setup,
-        lengths: wrong,
+// What a trial differed in: the answer, or else the tables; 0 if in nothing.
+fn with_tables(cells: &Cells, what: u32) -> u32 {
+    if what != 0 {
+        return what;
     }
-}
-
-// Starts the tables, in the model and by the entry.
-fn start_both(
-    state: &mut [u32],
-    wanted: &mut [u32],
-    real: &mut [u32],
-    setup: Setup,
-    lengths: Lengths,
-    case: u32,
-) {
-    copy(real, wanted, lent::CELLS);
-    let expected = lent::start(wanted, setup, lengths);
-    let answer = asked::start(setup, lengths, real);
-    state::note(state, state::START, answer);
-    if answer != expected {
-        state::judge(state, state::START, case, state::REFUSAL);
-        return;
+    if differences(cells, REAL, WANTED, lent::CELLS) > 0 {
+        return state::BUFFERS;
     }
-    if buffers_differ(real, wanted) {
-        state::judge(state, state::START, case, state::BUFFERS);
-    }
-}
-
-// The first sixteen cases have each number at 0, 1, its largest and one more; the others are drawn.
-fn start_setup(state: &mut [u32], setup: Setup, case: u32) -> Setup {
-    let which = case / 4 % 4;
-    let wrong = setups::perhaps_wrong_setup(state, setup, 6);
-    if case >= 16 {
-        return wrong;
-    }
-    match case % 4 {
-        0 => setups::with_number(setup, which, 0),
-        1 => setups::with_number(setup, which, 1),
-        2 => setups::with_number(setup, which, setups::most(which)),
-        _ => setups::with_number(setup, which, sum(setups::most(which), 1)),
-    }
-}
-
-// The lengths for a setup; those of another one where it is out of range.
-fn lengths_for(setup: Setup, other: Setup) -> Lengths {
-    if lent::setup_wrong(setup) {
-        return lent::right_lengths(other, 0);
-    }
-    lent::right_lengths(setup, 0)
-}
-
-// A setup and lengths for starting.
-fn pick_start(state: &mut [u32], case: u32) -> Lending {
-    let right = new_setup(state);
-    let setup = start_setup(state, right, case);
-    let lengths = setups::perhaps_wrong_lengths(state, lengths_for(setup, right), 4);
-    Lending {
-        setup: setup,
-        lengths: lengths,
-    }
-}
-
-pub(crate) fn start_case(state: &mut [u32], wanted: &mut [u32], real: &mut [u32], case: u32) {
-    let start = pick_start(state, case);
-    let setup = start.setup;
-    let lengths = start.lengths;
-    scatter(real, word(state));
-    start_both(state, wanted, real, setup, lengths, case);
-}
-
-// A list of runs over the same tables and account, and how many are left of it.
-pub struct Series {
-    pub setup: Setup,
-    pub account: Account,
-    pub left: u32,
-}
-
-// A run: a list of n requests, and up to three numbers after it that name none.
-pub struct Plan {
-    pub setup: Setup,
-    pub lengths: Lengths,
-    pub account: Account,
-    pub n: u32,
-    pub spare: u32,
+    0
 }
 
 // Whether two accounts are not the same.
-pub(crate) fn accounts_differ(a: Account, b: Account) -> bool {
+fn accounts_differ(a: Account, b: Account) -> bool {
     if a.requests != b.requests {
         return true;
     }
@@ -160,94 +65,180 @@ pub(crate) fn accounts_differ(a: Account, b: Account) -> bool {
     a.update != b.update
 }
 
-// What a run's answer and account differ in from the model's; 0 if in nothing.
-fn answers_differ(outcome: Outcome, ran: Ran) -> u32 {
-    let answer = ran.answer;
-    let account = ran.account;
-    if answer.refusal != outcome.refusal {
+// What an answer differs in from the model's; 0 if in nothing.
+fn answers_differ(expected: Answer, answer: Answer) -> u32 {
+    if answer.refusal != expected.refusal {
         return state::REFUSAL;
     }
-    if answer.place != outcome.place as usize {
+    if answer.place != expected.place {
         return state::PLACE;
     }
-    if answer.taken != outcome.taken as usize {
+    if answer.taken != expected.taken {
         return state::TAKEN;
     }
-    let expected = outcome.account;
-    if accounts_differ(account, expected) {
+    if answer.cost != expected.cost {
+        return state::COST;
+    }
+    let a = answer.account;
+    let b = expected.account;
+    if accounts_differ(a, b) {
         return state::ACCOUNT;
     }
     0
 }
 
-// What a run came to: the account, the refusal, and what differed from the model.
+// Calls an entry, after the model: what differs.
+pub(crate) fn compare(
+    cells: &mut Cells,
+    kind: u32,
+    setup: Setup,
+    account: Account,
+    m: u32,
+    n: u32,
+    expected: Answer,
+) -> u32 {
+    let answer = asked::ask(cells, kind, setup, account, m, n);
+    with_tables(cells, answers_differ(expected, answer))
+}
+
+// Starts the tables, in the model and by the entry.
+fn start_both(cells: &mut Cells, setup: Setup, case: u32) {
+    let fresh = setups::fresh_account();
+    copy_tables(cells);
+    let refusal = lent::start(cells, setup);
+    let expected = asked::answer_of(refusal, 0, 0, 0, fresh);
+    let what = compare(cells, state::START, setup, fresh, 0, 0, expected);
+    state::record(cells, state::START, case, refusal, what);
+}
+
+// Each number at 0, 1, its largest and one more.
+fn chosen_setup(setup: Setup, case: u32) -> Setup {
+    let which = case / 4 % 4;
+    match case % 4 {
+        0 => setups::with_number(setup, which, 0),
+        1 => setups::with_number(setup, which, 1),
+        2 => setups::with_number(setup, which, setups::most(which)),
+        _ => setups::with_number(setup, which, sum(setups::most(which), 1)),
+    }
+}
+
+// The first sixteen cases have chosen setups; the others are drawn.
+fn start_setup(cells: &mut Cells, setup: Setup, case: u32) -> Setup {
+    let drawn = setups::perhaps_wrong_setup(cells, setup, 6);
+    if case >= 16 {
+        return drawn;
+    }
+    chosen_setup(setup, case)
+}
+
+// The lengths for a setup; those of another one where it is out of range.
+fn put_start_lengths(cells: &mut Cells, setup: Setup, other: Setup) {
+    if lent::setup_wrong(setup) {
+        lent::put_lengths(cells, other, 0);
+        return;
+    }
+    lent::put_lengths(cells, setup, 0);
+}
+
+// A setup and lengths for starting.
+fn pick_start(cells: &mut Cells, case: u32) -> Setup {
+    let right = setups::new_setup(cells);
+    let setup = start_setup(cells, right, case);
+    put_start_lengths(cells, setup, right);
+    setups::perhaps_wrong_lengths(cells, 4);
+    setup
+}
+
+// Every cell of the real tables gets a number of its own.
+fn scatter_tables(cells: &mut Cells, from: u32) {
+    scatter(cells, REAL, lent::CELLS, from);
+}
+
+pub(crate) fn start_case(cells: &mut Cells, case: u32) {
+    let setup = pick_start(cells, case);
+    let from = word(cells);
+    scatter_tables(cells, from);
+    start_both(cells, setup, case);
+}
+
+// A list of runs over the same tables and account, and how many are left of it.
+pub struct Series {
+    pub setup: Setup,
+    pub account: Account,
+    pub left: u32,
+}
+
+// A run: its setup and account, a list of n requests, and up to three numbers after it that name none.
+pub struct Plan {
+    pub setup: Setup,
+    pub account: Account,
+    pub n: u32,
+    pub spare: u32,
+}
+
+// What a run came to in the model: the account and the refusal; and what differed from it.
 pub struct Judged {
     pub account: Account,
     pub refusal: u32,
     pub what: u32,
 }
 
-// A run in the model and by the entry.
-pub(crate) fn run_both(
-    plan: Plan,
-    requests: &[u32],
-    facts: &mut [u32],
-    wanted: &mut [u32],
-    real: &mut [u32],
-) -> Judged {
-    let setup = plan.setup;
-    let lengths = plan.lengths;
-    let account = plan.account;
-    copy(real, wanted, lent::CELLS);
-    let outcome = served::run(facts, wanted, setup, lengths, account, requests, plan.n);
-    let numbers = sum(product(plan.n, 4), plan.spare);
-    let ran = asked::run(setup, lengths, account, requests, numbers, real);
-    let after = ran.account;
-    let what = answers_differ(outcome, ran);
-    if what == 0 {
-        if buffers_differ(real, wanted) {
-            return Judged {
-                account: after,
-                refusal: outcome.refusal,
-                what: state::BUFFERS,
-            };
-        }
-    }
+// How many numbers a list of n requests has, and some after it.
+pub(crate) fn numbers_of(n: u32, spare: u32) -> u32 {
+    sum(product(n, 4), spare)
+}
+
+fn run_answer(outcome: Outcome) -> Answer {
+    let account = outcome.account;
+    asked::answer_of(
+        outcome.refusal,
+        outcome.place as usize,
+        outcome.taken as usize,
+        0,
+        account,
+    )
+}
+
+fn judged_of(outcome: Outcome, what: u32) -> Judged {
+    let account = outcome.account;
     Judged {
-        account: after,
+        account: account,
         refusal: outcome.refusal,
         what: what,
     }
+}
+
+// A run in the model and by the entry.
+pub(crate) fn run_both(cells: &mut Cells, plan: Plan) -> Judged {
+    let setup = plan.setup;
+    let account = plan.account;
+    copy_tables(cells);
+    let outcome = served::run(cells, setup, account, plan.n);
+    let n = numbers_of(plan.n, plan.spare);
+    let what = compare(cells, state::RUN, setup, account, 0, n, run_answer(outcome));
+    judged_of(outcome, what)
 }
 
 pub(crate) fn cycles(account: Account) -> u32 {
     sum(sum(account.fetch, account.write_back), account.update)
 }
 
-// Tables lent at a setup and lengths, and what of them is looked at.
+// A setup at which tables are lent, and what of them is looked at.
 struct Sight {
     setup: Setup,
-    lengths: Lengths,
     processor: u32,
     block: u32,
 }
 
 // A look at a block of a cache, in the model and by the entry.
-fn look_both(state: &mut [u32], cells: &[u32], sight: Sight, case: u32) {
+fn look_both(cells: &mut Cells, sight: Sight, case: u32) {
     let setup = sight.setup;
-    let lengths = sight.lengths;
     let i = sight.processor;
     let b = sight.block;
-    let first = lent::words_at(setup, i, b);
-    let seen = asked::look(setup, lengths, i, b, cells, first);
-    let shows = lent::shows(cells, setup, lengths, i, b);
-    state::note(state, state::LOOK, shows as u32);
-    state::judge(
-        state,
-        state::LOOK,
-        case,
-        look_differs(seen, shows, setup.words),
-    );
+    let seen = asked::look(cells, setup, i, b);
+    let shows = lent::shows(cells, setup, i, b);
+    let what = look_differs(seen, shows, setup.words);
+    state::record(cells, state::LOOK, case, shows as u32, what);
 }
 
 // A look shows p words, those of the block, or none.
@@ -267,51 +258,42 @@ fn look_differs(seen: Shown, shows: bool, p: u32) -> u32 {
     0
 }
 
-// A look: at the block that a line names, or at any.
-fn pick_look(state: &mut [u32], cells: &[u32], right: Setup) -> Sight {
-    let lending = pick_lending(state, right, 0, 20, 10);
-    let setup = lending.setup;
-    let lengths = lending.lengths;
-    let slots = lent::slots(right);
-    let k = damage::held_slot(cells, slots, draw(state, slots));
-    let any = draw(state, sum(right.blocks, 2));
-    let i = draw(state, sum(right.processors, 1));
-    let roll = draw(state, 3);
-    if roll == 0 {
-        return Sight {
-            setup: setup,
-            lengths: lengths,
-            processor: i,
-            block: any,
-        };
+// A look: at the block in the first filled slot from k on, or at any.
+fn sight_at(cells: &Cells, setup: Setup, right: Setup, k: u32) -> Sight {
+    let held = damage::held_slot(cells, lent::slots(right), k);
+    Sight {
+        setup: setup,
+        processor: quotient(held, right.lines),
+        block: damage::block_at(cells, held),
+    }
+}
+
+fn pick_look(cells: &mut Cells, right: Setup) -> Sight {
+    let setup = setups::pick_lending(cells, right, 0, 20, 10);
+    let k = draw(cells, lent::slots(right));
+    let any = draw(cells, sum(right.blocks, 2));
+    let i = draw(cells, sum(right.processors, 1));
+    let roll = draw(cells, 3);
+    if roll != 0 {
+        return sight_at(cells, setup, right, k);
     }
     Sight {
         setup: setup,
-        lengths: lengths,
-        processor: quotient(k, right.lines),
-        block: get(cells, k),
+        processor: i,
+        block: any,
     }
 }
 
-fn look_case(state: &mut [u32], cells: &[u32], right: Setup, case: u32) {
-    let sight = pick_look(state, cells, right);
-    look_both(state, cells, sight, case);
-}
-
-// Main memory may hold anything; the started caches are empty.
-fn fill_memory(cells: &mut [u32], n: u32, from: u32) {
-    let mut v = 0;
-    while v < n {
-        put(cells, sum(lent::MEMORY, v), sum(from, v));
-        v += 1;
-    }
+fn look_case(cells: &mut Cells, right: Setup, case: u32) {
+    let sight = pick_look(cells, right);
+    look_both(cells, sight, case);
 }
 
 // A new list: its setup, its account, and how many runs it has.
-fn pick_series(state: &mut [u32]) -> Series {
-    let setup = setups::pick_setup(state);
-    let account = setups::pick_account(state, setup.words);
-    let left = draw(state, 8);
+fn pick_series(cells: &mut Cells) -> Series {
+    let setup = setups::pick_setup(cells);
+    let account = setups::pick_account(cells, setup.words);
+    let left = draw(cells, 8);
     Series {
         setup: setup,
         account: account,
@@ -319,52 +301,37 @@ fn pick_series(state: &mut [u32]) -> Series {
     }
 }
 
-// The tables are started, whatever they held, and main memory is filled.
-fn begin_tables(state: &mut [u32], wanted: &mut [u32], real: &mut [u32], setup: Setup, case: u32) {
-    let from = word(state);
-    scatter(real, from);
-    start_both(
-        state,
-        wanted,
-        real,
-        setup,
-        lent::right_lengths(setup, 0),
-        case,
-    );
-    fill_memory(real, lent::variables(setup), from);
+// The tables are started, whatever they held. Main memory may hold anything; the started caches are empty.
+fn begin_tables(cells: &mut Cells, setup: Setup, case: u32) {
+    let from = word(cells);
+    scatter_tables(cells, from);
+    lent::put_lengths(cells, setup, 0);
+    start_both(cells, setup, case);
+    scatter(cells, REAL_MEMORY, lent::variables(setup), from);
 }
 
 // A list goes on, or a new one begins.
-fn next_series(
-    state: &mut [u32],
-    wanted: &mut [u32],
-    real: &mut [u32],
-    at: Series,
-    case: u32,
-) -> Series {
-    state::begin(state);
+fn next_series(cells: &mut Cells, at: Series, case: u32) -> Series {
+    state::begin(cells);
     if at.left > 0 {
         return at;
     }
-    let next = pick_series(state);
+    let next = pick_series(cells);
     let setup = next.setup;
-    begin_tables(state, wanted, real, setup, case);
+    begin_tables(cells, setup, case);
     next
 }
 
 // The next run of a list: perhaps with a wrong length, or at a wrong setup.
-fn pick_plan(state: &mut [u32], requests: &mut [u32], at: Series) -> Plan {
+fn pick_plan(cells: &mut Cells, at: Series) -> Plan {
     let right = at.setup;
     let account = at.account;
-    let n = draw(state, 61);
-    let spare = draw(state, 4);
-    lists::pick_requests(state, requests, right, n, 100);
-    let lending = pick_lending(state, right, n, 24, 12);
-    let setup = lending.setup;
-    let lengths = lending.lengths;
+    let n = draw(cells, 61);
+    let spare = draw(cells, 4);
+    lists::pick_requests(cells, right, n, 100);
+    let setup = setups::pick_lending(cells, right, n, 24, 12);
     Plan {
         setup: setup,
-        lengths: lengths,
         account: account,
         n: n,
         spare: spare,
@@ -372,60 +339,49 @@ fn pick_plan(state: &mut [u32], requests: &mut [u32], at: Series) -> Plan {
 }
 
 // What a run came to is noted.
-pub(crate) fn note_run(state: &mut [u32], judged: Judged, before: Account, case: u32) {
+pub(crate) fn note_run(cells: &mut Cells, judged: Judged, before: Account, case: u32) {
     let after = judged.account;
-    state::note(state, state::RUN, judged.refusal);
-    state::judge(state, state::RUN, case, judged.what);
+    state::record(cells, state::RUN, case, judged.refusal, judged.what);
     state::add(
-        state,
+        cells,
         state::REQUESTS,
         less(after.requests, before.requests),
     );
-    state::add(state, state::CYCLES, less(cycles(after), cycles(before)));
+    state::add(cells, state::CYCLES, less(cycles(after), cycles(before)));
 }
 
 // Two looks, before and after the tables are perhaps damaged.
-fn look_around(state: &mut [u32], cells: &mut [u32], setup: Setup, case: u32) {
-    look_case(state, cells, setup, case);
-    damage::perhaps_damage(state, cells, setup);
-    look_case(state, cells, setup, case);
+fn look_around(cells: &mut Cells, setup: Setup, case: u32) {
+    look_case(cells, setup, case);
+    damage::perhaps_damage(cells, setup);
+    look_case(cells, setup, case);
 }
 
 // The next run of a list.
-fn run_next(
-    state: &mut [u32],
-    requests: &mut [u32],
-    facts: &mut [u32],
-    wanted: &mut [u32],
-    real: &mut [u32],
-    at: Series,
-    case: u32,
-) -> Judged {
+fn run_next(cells: &mut Cells, at: Series, case: u32) -> Judged {
     let before = at.account;
-    let plan = pick_plan(state, requests, at);
-    let judged = run_both(plan, requests, facts, wanted, real);
-    note_run(state, judged, before, case);
+    let plan = pick_plan(cells, at);
+    let judged = run_both(cells, plan);
+    note_run(cells, judged, before, case);
     judged
 }
 
-// One run of a list, and two looks at what it left. A list that was refused by 20 or 21 ends there.
-pub(crate) fn run_case(
-    state: &mut [u32],
-    requests: &mut [u32],
-    facts: &mut [u32],
-    wanted: &mut [u32],
-    real: &mut [u32],
-    last: Series,
-    case: u32,
-) -> Series {
-    let at = next_series(state, wanted, real, last, case);
+// One run of a list, and two looks at what it left.
+pub(crate) fn run_case(cells: &mut Cells, last: Series, case: u32) -> Series {
+    let at = next_series(cells, last, case);
     let setup = at.setup;
-    let judged = run_next(state, requests, facts, wanted, real, at, case);
-    let after = judged.account;
-    look_around(state, real, setup, case);
+    let judged = run_next(cells, at, case);
+    look_around(cells, setup, case);
+    series_after(at, judged)
+}
+
+// A list that was refused by 20 or 21 ends there.
+fn series_after(at: Series, judged: Judged) -> Series {
+    let setup = at.setup;
+    let account = judged.account;
     Series {
         setup: setup,
-        account: after,
+        account: account,
         left: left_after(judged.refusal, at.left),
     }
 }

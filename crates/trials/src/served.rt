@@ -12,16 +12,21 @@ use crate::board::set_counter;
 use crate::board::set_current;
 use crate::board::set_owner;
 use crate::board::set_stored;
-use crate::cells::get;
+use crate::cells::Cells;
+use crate::cells::WANTED;
 use crate::cells::less;
 use crate::cells::product;
 use crate::cells::put;
 use crate::cells::quotient;
 use crate::cells::sum;
 use crate::lent;
-use crate::lent::Lengths;
+use crate::lists::Request;
+use crate::lists::request_at;
 use protocol::Account;
 use protocol::Setup;
+
+// Where the model's values go.
+const VALUES: u32 = WANTED + lent::VALUES;
 
 // The cycles of a miss.
 struct Moved {
@@ -46,43 +51,43 @@ pub struct Outcome {
 }
 
 // Block a leaves processor i: the cycles of writing it back if it was marked.
-fn leave(facts: &mut [u32], p: u32, i: u32, a: u32) -> u32 {
-    set_counter(facts, i, a, 0);
-    if !owns(facts, i, a) {
+fn leave(cells: &mut Cells, p: u32, i: u32, a: u32) -> u32 {
+    set_counter(cells, i, a, 0);
+    if !owns(cells, i, a) {
         return 0;
     }
-    save(facts, p, a);
+    save(cells, p, a);
     p
 }
 
 // A block in the way of b leaves.
-fn make_room(facts: &mut [u32], setup: Setup, i: u32, b: u32) -> u32 {
-    let a = in_the_way(facts, setup.lines, i, b);
+fn make_room(cells: &mut Cells, setup: Setup, i: u32, b: u32) -> u32 {
+    let a = in_the_way(cells, setup.lines, i, b);
     if a >= BLOCKS {
         return 0;
     }
-    leave(facts, setup.words, i, a)
+    leave(cells, setup.words, i, a)
 }
 
 // Whoever has b marked gives its words to main memory.
-fn reclaim(facts: &mut [u32], p: u32, b: u32) {
-    if owner(facts, b) == 0 {
+fn reclaim(cells: &mut Cells, p: u32, b: u32) {
+    if owner(cells, b) == 0 {
         return;
     }
-    save(facts, p, b);
+    save(cells, p, b);
 }
 
 // Block b comes to processor i, if it is not there.
-fn bring(facts: &mut [u32], setup: Setup, i: u32, b: u32) -> Moved {
-    if counter(facts, i, b) > 0 {
+fn bring(cells: &mut Cells, setup: Setup, i: u32, b: u32) -> Moved {
+    if counter(cells, i, b) > 0 {
         return Moved {
             fetch: 0,
             write_back: 0,
         };
     }
-    let write_back = make_room(facts, setup, i, b);
-    reclaim(facts, setup.words, b);
-    set_counter(facts, i, b, setup.words);
+    let write_back = make_room(cells, setup, i, b);
+    reclaim(cells, setup.words, b);
+    set_counter(cells, i, b, setup.words);
     Moved {
         fetch: setup.words,
         write_back: write_back,
@@ -90,45 +95,39 @@ fn bring(facts: &mut [u32], setup: Setup, i: u32, b: u32) -> Moved {
 }
 
 // Processor i, which has block b, writes x to variable v: the update cycles.
-fn change(facts: &mut [u32], p: u32, i: u32, b: u32, v: u32, x: u32) -> u32 {
-    set_counter(facts, i, b, p);
-    set_current(facts, v, x);
-    let payer = other_holder(facts, i, b);
+fn change(cells: &mut Cells, p: u32, i: u32, b: u32, v: u32, x: u32) -> u32 {
+    set_counter(cells, i, b, p);
+    set_current(cells, v, x);
+    let payer = other_holder(cells, i, b);
     if payer >= PROCESSORS {
-        set_owner(facts, b, sum(i, 1));
+        set_owner(cells, b, sum(i, 1));
         return 0;
     }
-    set_stored(facts, v, x);
-    let left = less(counter(facts, payer, b), 1);
-    set_counter(facts, payer, b, left);
+    set_stored(cells, v, x);
+    let left = less(counter(cells, payer, b), 1);
+    set_counter(cells, payer, b, left);
     1
 }
 
 // Serves one request, which nothing refuses.
-pub(crate) fn serve(
-    facts: &mut [u32],
-    setup: Setup,
-    i: u32,
-    write: bool,
-    v: u32,
-    x: u32,
-) -> Served {
+pub(crate) fn serve(cells: &mut Cells, setup: Setup, request: Request) -> Served {
+    let i = request.processor;
+    let v = request.variable;
     let b = quotient(v, setup.words);
-    let moved = bring(facts, setup, i, b);
-    if write {
-        let update = change(facts, setup.words, i, b, v, x);
-        return Served {
-            value: x,
-            fetch: moved.fetch,
-            write_back: moved.write_back,
-            update: update,
-        };
+    let moved = bring(cells, setup, i, b);
+    if request.write {
+        let update = change(cells, setup.words, i, b, v, request.value);
+        return served_at(moved, request.value, update);
     }
+    served_at(moved, current(cells, v), 0)
+}
+
+fn served_at(moved: Moved, value: u32, update: u32) -> Served {
     Served {
-        value: current(facts, v),
+        value: value,
         fetch: moved.fetch,
         write_back: moved.write_back,
-        update: 0,
+        update: update,
     }
 }
 
@@ -154,8 +153,9 @@ pub(crate) fn named_wrongly(setup: Setup, i: u32, v: u32) -> u32 {
 }
 
 // 3, 4 and 22.
-fn refused(setup: Setup, account: Account, i: u32, v: u32) -> u32 {
-    let named = named_wrongly(setup, i, v);
+fn refused(setup: Setup, so_far: Outcome, request: Request) -> u32 {
+    let account = so_far.account;
+    let named = named_wrongly(setup, request.processor, request.variable);
     if named != 0 {
         return named;
     }
@@ -184,7 +184,7 @@ fn times(requests: u32, p: u32) -> u64 {
 }
 
 // Whether an account is impossible.
-pub(crate) fn impossible(p: u32, account: Account) -> bool {
+fn impossible(p: u32, account: Account) -> bool {
     if over(account.fetch, p, account.requests) {
         return true;
     }
@@ -194,96 +194,77 @@ pub(crate) fn impossible(p: u32, account: Account) -> bool {
     account.update > account.requests
 }
 
-// The run after its next request, of four numbers; after a refusal nothing changes.
-fn taken_next(
-    facts: &mut [u32],
-    tables: &mut [u32],
-    setup: Setup,
-    requests: &[u32],
-    so_far: Outcome,
-) -> Outcome {
+// The run after a refusal.
+fn refused_at(so_far: Outcome, refusal: u32) -> Outcome {
+    let account = so_far.account;
+    outcome_of(so_far.taken, refusal, so_far.taken, account)
+}
+
+// The run with one request more.
+fn taken(so_far: Outcome, served: Served) -> Outcome {
+    let account = so_far.account;
+    outcome_of(sum(so_far.taken, 1), 0, 0, entered(account, served))
+}
+
+// The run after its next request; after a refusal nothing changes.
+fn taken_next(cells: &mut Cells, setup: Setup, so_far: Outcome) -> Outcome {
     if so_far.refusal != 0 {
         return so_far;
     }
-    let t = so_far.taken;
-    let account = so_far.account;
-    let first = product(t, 4);
-    let i = get(requests, first);
-    let v = get(requests, sum(first, 2));
-    let refusal = refused(setup, account, i, v);
+    let request = request_at(cells, so_far.taken);
+    let refusal = refused(setup, so_far, request);
     if refusal != 0 {
-        return Outcome {
-            taken: t,
-            refusal: refusal,
-            place: t,
-            account: account,
-        };
+        return refused_at(so_far, refusal);
     }
-    let write = get(requests, sum(first, 1)) == 1;
-    let served = serve(facts, setup, i, write, v, get(requests, sum(first, 3)));
-    put(tables, sum(lent::VALUES, t), served.value);
+    let served = serve(cells, setup, request);
+    put(cells, VALUES, so_far.taken, served.value);
+    taken(so_far, served)
+}
+
+fn outcome_of(taken: u32, refusal: u32, place: u32, account: Account) -> Outcome {
     Outcome {
-        taken: sum(t, 1),
-        refusal: 0,
-        place: 0,
-        account: entered(account, served),
+        taken: taken,
+        refusal: refusal,
+        place: place,
+        account: account,
     }
 }
 
 // The requests in turn.
-fn take_all(
-    facts: &mut [u32],
-    tables: &mut [u32],
-    setup: Setup,
-    requests: &[u32],
-    n: u32,
-    account: Account,
-) -> Outcome {
-    let mut so_far = stopped(0, account);
+fn take_all(cells: &mut Cells, setup: Setup, n: u32, account: Account) -> Outcome {
+    let mut so_far = outcome_of(0, 0, 0, account);
     let mut t = 0;
     while t < n {
-        so_far = taken_next(facts, tables, setup, requests, so_far);
+        so_far = taken_next(cells, setup, so_far);
         t += 1;
     }
     so_far
 }
 
-// A run that took nothing, at place 0.
-fn stopped(refusal: u32, account: Account) -> Outcome {
-    Outcome {
-        taken: 0,
-        refusal: refusal,
-        place: 0,
-        account: account,
+// 1, 2, 20 and 21, of a run of n requests; the facts become what the tables show.
+fn run_refusal(cells: &mut Cells, setup: Setup, account: Account, n: u32) -> u32 {
+    if lent::setup_wrong(setup) {
+        return 1;
     }
+    if lent::lengths_wrong(cells, setup, n, 6) {
+        return 2;
+    }
+    if lent::load(cells, setup) > 0 {
+        return 20;
+    }
+    if impossible(setup.words, account) {
+        return 21;
+    }
+    0
 }
 
 // A run of n requests over lent tables, which become what they should be after it.
-pub(crate) fn run(
-    facts: &mut [u32],
-    tables: &mut [u32],
-    setup: Setup,
-    lengths: Lengths,
-    account: Account,
-    requests: &[u32],
-    n: u32,
-) -> Outcome {
-    if lent::setup_wrong(setup) {
-        return stopped(1, account);
+pub(crate) fn run(cells: &mut Cells, setup: Setup, account: Account, n: u32) -> Outcome {
+    let refusal = run_refusal(cells, setup, account, n);
+    if refusal != 0 {
+        return outcome_of(0, refusal, 0, account);
     }
-    if lent::lengths_wrong(setup, lengths) {
-        return stopped(2, account);
-    }
-    if lengths.values != n {
-        return stopped(2, account);
-    }
-    if lent::load(facts, tables, setup) > 0 {
-        return stopped(20, account);
-    }
-    if impossible(setup.words, account) {
-        return stopped(21, account);
-    }
-    let outcome = take_all(facts, tables, setup, requests, n, account);
-    lent::lay_out(facts, tables, setup);
-    outcome
+    let after = take_all(cells, setup, n, account);
+    lent::lay_out(cells, setup);
+    after
 }

@@ -1,64 +1,75 @@
 // Setups, lengths and accounts for the cases, right ones and wrong ones.
+use crate::cells::Cells;
+use crate::cells::LENGTHS;
 use crate::cells::less;
 use crate::cells::product;
+use crate::cells::put;
 use crate::cells::quotient;
 use crate::cells::remainder;
 use crate::cells::sum;
 use crate::din_lines;
-use crate::lent::Lengths;
+use crate::lent;
+use crate::state;
 use crate::state::between;
 use crate::state::draw;
 use crate::state::word;
 use protocol::Account;
 use protocol::Setup;
 
-// A setup whose numbers are at most these.
-fn within(state: &mut [u32], processors: u32, lines: u32, words: u32, blocks: u32) -> Setup {
-    let n = between(state, 1, processors);
-    let l = between(state, 1, lines);
-    let p = between(state, 1, words);
-    let m = between(state, 1, blocks);
+fn setup_of(processors: u32, lines: u32, words: u32, blocks: u32) -> Setup {
     Setup {
-        processors: n,
-        lines: l,
-        words: p,
-        blocks: m,
+        processors: processors,
+        lines: lines,
+        words: words,
+        blocks: blocks,
+    }
+}
+
+// A setup whose numbers are at most these.
+fn within(cells: &mut Cells, largest: Setup) -> Setup {
+    let n = between(cells, 1, largest.processors);
+    let l = between(cells, 1, largest.lines);
+    let p = between(cells, 1, largest.words);
+    let m = between(cells, 1, largest.blocks);
+    setup_of(n, l, p, m)
+}
+
+// The largest numbers of a shape that is drawn.
+fn largest(shape: u32) -> Setup {
+    match shape {
+        // Few blocks: much sharing.
+        0 => setup_of(8, 2, 4, 6),
+        // Words of their own.
+        1 => setup_of(4, 3, 1, 8),
+        // One processor.
+        2 => setup_of(1, 8, 4, 32),
+        // One line: every two blocks collide.
+        4 => setup_of(3, 1, 3, 3),
+        // A pair of processors on one block.
+        7 => setup_of(2, 1, 6, 1),
+        // Any, or the largest.
+        _ => setup_of(8, 64, 16, 256),
     }
 }
 
 // A right setup, of one of a few shapes.
-pub(crate) fn pick_setup(state: &mut [u32]) -> Setup {
-    let shape = draw(state, 9);
-    let any = within(state, 8, 64, 16, 256);
+pub(crate) fn pick_setup(cells: &mut Cells) -> Setup {
+    let shape = draw(cells, 9);
+    let any = within(cells, largest(6));
     match shape {
-        // Few blocks: much sharing.
-        0 => within(state, 8, 2, 4, 6),
-        // Words of their own.
-        1 => within(state, 4, 3, 1, 8),
-        // One processor.
-        2 => within(state, 1, 8, 4, 32),
         // More lines than blocks.
-        3 => Setup {
-            processors: any.processors,
-            lines: 64,
-            words: any.words,
-            blocks: between(state, 1, 8),
-        },
-        // One line: every two blocks collide.
-        4 => within(state, 3, 1, 3, 3),
-        // The largest.
-        5 => Setup {
-            processors: 8,
-            lines: 64,
-            words: 16,
-            blocks: 256,
-        },
+        3 => setup_of(any.processors, 64, any.words, between(cells, 1, 8)),
+        5 => largest(5),
         6 => any,
-        // A pair of processors on one block.
-        7 => within(state, 2, 1, 6, 1),
-        // The traces'.
-        _ => din_lines::trace_setup(),
+        8 => din_lines::trace_setup(),
+        _ => within(cells, largest(shape)),
     }
+}
+
+// A case begins, with a right setup.
+pub(crate) fn new_setup(cells: &mut Cells) -> Setup {
+    state::begin(cells);
+    pick_setup(cells)
 }
 
 // The setup with its number `which` at x.
@@ -83,20 +94,25 @@ pub(crate) fn most(which: u32) -> u32 {
     }
 }
 
-// The setup, or once in `n` times one that is out of range.
-pub(crate) fn perhaps_wrong_setup(state: &mut [u32], setup: Setup, n: u32) -> Setup {
-    let roll = draw(state, n);
-    let which = draw(state, 4);
-    let how = draw(state, 3);
-    let far = word(state);
-    if roll != 0 {
-        return setup;
-    }
+// The setup with its number `which` out of range: 0, one too many, or `far`.
+fn wrong_setup(setup: Setup, which: u32, how: u32, far: u32) -> Setup {
     match how {
         0 => with_number(setup, which, 0),
         1 => with_number(setup, which, sum(most(which), 1)),
         _ => with_number(setup, which, far),
     }
+}
+
+// The setup, or once in `n` times one that is out of range.
+pub(crate) fn perhaps_wrong_setup(cells: &mut Cells, setup: Setup, n: u32) -> Setup {
+    let roll = draw(cells, n);
+    let which = draw(cells, 4);
+    let how = draw(cells, 3);
+    let far = word(cells);
+    if roll != 0 {
+        return setup;
+    }
+    wrong_setup(setup, which, how, far)
 }
 
 // One more or one less.
@@ -107,24 +123,31 @@ fn off_by_one(x: u32, up: bool) -> u32 {
     less(x, 1)
 }
 
-// The lengths, or once in n times with one of them wrong by one.
-pub(crate) fn perhaps_wrong_lengths(state: &mut [u32], lengths: Lengths, n: u32) -> Lengths {
-    let roll = draw(state, n);
-    let which = draw(state, 6);
-    let up = draw(state, 2) == 0;
-    let mut other = lengths;
+// Once in n times one of the lengths becomes wrong by one.
+pub(crate) fn perhaps_wrong_lengths(cells: &mut Cells, n: u32) {
+    let roll = draw(cells, n);
+    let which = draw(cells, 6);
+    let up = draw(cells, 2) == 0;
     if roll != 0 {
-        return other;
+        return;
     }
-    match which {
-        0 => other.blocks = off_by_one(lengths.blocks, up),
-        1 => other.counters = off_by_one(lengths.counters, up),
-        2 => other.marks = off_by_one(lengths.marks, up),
-        3 => other.words = off_by_one(lengths.words, up),
-        4 => other.memory = off_by_one(lengths.memory, up),
-        _ => other.values = off_by_one(lengths.values, up),
-    }
-    other
+    let right = lent::length(cells, which);
+    put(cells, LENGTHS, which, off_by_one(right, up));
+}
+
+// The setup that an entry is given, and the lengths for it and for a list of n requests: the setup is wrong once in
+// `setup_every` times, a length once in `length_every` times.
+pub(crate) fn pick_lending(
+    cells: &mut Cells,
+    right: Setup,
+    n: u32,
+    setup_every: u32,
+    length_every: u32,
+) -> Setup {
+    let setup = perhaps_wrong_setup(cells, right, setup_every);
+    lent::put_lengths(cells, right, n);
+    perhaps_wrong_lengths(cells, length_every);
+    setup
 }
 
 // p × requests, for p at most 16 and some millions of requests.
@@ -142,12 +165,12 @@ fn account_of(requests: u32, fetch: u32, write_back: u32, update: u32) -> Accoun
     }
 }
 
-// An account with which a list of runs begins: mostly fresh, else at a limit or past it.
-pub(crate) fn pick_account(state: &mut [u32], p: u32) -> Account {
-    let shape = draw(state, 24);
-    let requests = between(state, 999970, 1000003);
-    let few = draw(state, 2000);
-    let far = word(state);
+pub(crate) fn fresh_account() -> Account {
+    account_of(0, 0, 0, 0)
+}
+
+// An account of a shape, from numbers drawn for it: `requests` is about a million.
+fn account_at(shape: u32, p: u32, requests: u32, few: u32, far: u32) -> Account {
     match shape {
         // About to be full, and at the limits of 21.
         0 => account_of(requests, full(p, requests), full(p, requests), requests),
@@ -160,9 +183,18 @@ pub(crate) fn pick_account(state: &mut [u32], p: u32) -> Account {
         5 => account_of(few, 0, sum(full(p, few), 1), 0),
         6 => account_of(few, 0, 0, sum(few, 1)),
         7 => account_of(requests, sum(full(p, requests), 1), 0, requests),
-        // p × requests is over 32 bits.
-        8 => account_of(4294967295, far, far, far),
+        // p × requests is over 32 bits, and for an even p its low 32 bits are few.
+        8 => account_of(sum(2147483648, few), far, far, quotient(far, 2)),
         9 => account_of(few, far, far, far),
-        _ => account_of(0, 0, 0, 0),
+        _ => fresh_account(),
     }
+}
+
+// An account with which a list of runs begins: mostly fresh, else at a limit or past it.
+pub(crate) fn pick_account(cells: &mut Cells, p: u32) -> Account {
+    let shape = draw(cells, 24);
+    let requests = between(cells, 999970, 1000003);
+    let few = draw(cells, 2000);
+    let far = word(cells);
+    account_at(shape, p, requests, few, far)
 }

@@ -1,4 +1,6 @@
-// The state of the trials, in one list of cells: the random generator, and the counts of what was seen.
+// The state of the trials, in the first 256 cells: the random generator, and the counts of what was seen.
+use crate::cells::Cells;
+use crate::cells::STATE;
 use crate::cells::get;
 use crate::cells::less;
 use crate::cells::put;
@@ -54,38 +56,38 @@ const COUNTS: u32 = 16;
 // How many differences are printed; all are counted.
 const PRINTED: u32 = 20;
 
-pub(crate) fn set_seed(state: &mut [u32], seed: u32) {
-    put(state, GENERATOR, seed);
+pub(crate) fn set_seed(cells: &mut Cells, seed: u32) {
+    put(cells, STATE, GENERATOR, seed);
 }
 
 // A number below `below`, by Lehmer's generator modulo 2³¹ − 1.
-pub(crate) fn draw(state: &mut [u32], below: u32) -> u32 {
-    let s = get(state, GENERATOR) as u64 * 48271 % 2147483647;
-    put(state, GENERATOR, s as u32);
+pub(crate) fn draw(cells: &mut Cells, below: u32) -> u32 {
+    let s = get(cells, STATE, GENERATOR) as u64 * 48271 % 2147483647;
+    put(cells, STATE, GENERATOR, s as u32);
     remainder(s as u32, below)
 }
 
 // Any number of 32 bits.
-pub(crate) fn word(state: &mut [u32]) -> u32 {
-    let high = draw(state, 65536) % 65536;
-    let low = draw(state, 65536) % 65536;
+pub(crate) fn word(cells: &mut Cells) -> u32 {
+    let high = draw(cells, 65536) % 65536;
+    let low = draw(cells, 65536) % 65536;
     high * 65536 + low
 }
 
 // A number from `low` to `high`.
-pub(crate) fn between(state: &mut [u32], low: u32, high: u32) -> u32 {
-    sum(low, draw(state, sum(less(high, low), 1)))
+pub(crate) fn between(cells: &mut Cells, low: u32, high: u32) -> u32 {
+    sum(low, draw(cells, sum(less(high, low), 1)))
 }
 
 // A case begins: the generator's number names it.
-pub(crate) fn begin(state: &mut [u32]) {
-    let seed = get(state, GENERATOR);
-    put(state, SEED, seed);
+pub(crate) fn begin(cells: &mut Cells) {
+    let seed = get(cells, STATE, GENERATOR);
+    put(cells, STATE, SEED, seed);
 }
 
-pub(crate) fn add(state: &mut [u32], place: u32, x: u32) {
-    let before = get(state, place);
-    put(state, place, sum(before, x));
+pub(crate) fn add(cells: &mut Cells, place: u32, x: u32) {
+    let before = get(cells, STATE, place);
+    put(cells, STATE, place, sum(before, x));
 }
 
 fn count_place(kind: u32, number: u32) -> u32 {
@@ -97,24 +99,25 @@ fn print(text: &[u8], number: u32) {
     io::print_decimal(STDOUT_FILENO, number as u64);
 }
 
-// A trial of a kind ended in this number.
-pub(crate) fn note(state: &mut [u32], kind: u32, number: u32) {
-    add(state, count_place(kind, number), 1);
-}
-
 // A trial that differed from the model in `what`, 0 if in nothing.
-pub(crate) fn judge(state: &mut [u32], kind: u32, case: u32, what: u32) {
+pub(crate) fn judge(cells: &mut Cells, kind: u32, case: u32, what: u32) {
     if what == 0 {
         return;
     }
-    add(state, DIFFERENCES, 1);
-    if get(state, DIFFERENCES) > PRINTED {
+    add(cells, DIFFERENCES, 1);
+    if get(cells, STATE, DIFFERENCES) > PRINTED {
         return;
     }
     print_name(kind);
     print(b" case ", case);
-    print(b" seed ", get(state, SEED));
+    print(b" seed ", get(cells, STATE, SEED));
     print_what(what);
+}
+
+// A trial of a kind ended in this number, and differed from the model in `what`, 0 if in nothing.
+pub(crate) fn record(cells: &mut Cells, kind: u32, case: u32, number: u32, what: u32) {
+    add(cells, count_place(kind, number), 1);
+    judge(cells, kind, case, what);
 }
 
 fn print_name(kind: u32) {
@@ -155,8 +158,8 @@ fn print_number(kind: u32, number: u32) {
     io::write_all(STDOUT_FILENO, b" held");
 }
 
-fn print_count(state: &[u32], kind: u32, number: u32) {
-    let count = get(state, count_place(kind, number));
+fn print_count(cells: &Cells, kind: u32, number: u32) {
+    let count = get(cells, STATE, count_place(kind, number));
     if count == 0 {
         return;
     }
@@ -165,29 +168,29 @@ fn print_count(state: &[u32], kind: u32, number: u32) {
     print_sum(b": ", count);
 }
 
-fn kind_total(state: &[u32], kind: u32) -> u32 {
+fn kind_total(cells: &Cells, kind: u32) -> u32 {
     let mut total = 0;
     let mut number = 0;
     while number < 32 {
-        total = sum(total, get(state, count_place(kind, number)));
+        total = sum(total, get(cells, STATE, count_place(kind, number)));
         number += 1;
     }
     total
 }
 
-fn print_counts(state: &[u32], kind: u32) {
+fn print_counts(cells: &Cells, kind: u32) {
     let mut number = 0;
     while number < 32 {
-        print_count(state, kind, number);
+        print_count(cells, kind, number);
         number += 1;
     }
 }
 
 // How many cases of a kind there were, and how many ended in each number.
-fn print_kind(state: &[u32], kind: u32) {
+fn print_kind(cells: &Cells, kind: u32) {
     print_name(kind);
-    print_sum(b" cases ", kind_total(state, kind));
-    print_counts(state, kind);
+    print_sum(b" cases ", kind_total(cells, kind));
+    print_counts(cells, kind);
 }
 
 fn print_sum(text: &[u8], number: u32) {
@@ -196,15 +199,21 @@ fn print_sum(text: &[u8], number: u32) {
 }
 
 // The counts of each kind by number, and last the differences.
-pub(crate) fn print_all(state: &[u32; 256]) {
-    print_kind(state, START);
-    print_kind(state, RUN);
-    print_kind(state, LOOK);
-    print_kind(state, PRICE);
-    print_kind(state, TRACE);
-    print_sum(b"requests served in runs ", get(state, REQUESTS));
-    print_sum(b"cycles billed in runs ", get(state, CYCLES));
-    print_sum(b"schedules compared with the engine ", get(state, COMPARED));
-    print_sum(b"of them cheaper than the engine ", get(state, CHEAPER));
-    print_sum(b"differences ", get(state, DIFFERENCES));
+pub(crate) fn print_all(cells: &Cells) {
+    print_kind(cells, START);
+    print_kind(cells, RUN);
+    print_kind(cells, LOOK);
+    print_kind(cells, PRICE);
+    print_kind(cells, TRACE);
+    print_sum(b"requests served in runs ", get(cells, STATE, REQUESTS));
+    print_sum(b"cycles billed in runs ", get(cells, STATE, CYCLES));
+    print_sum(
+        b"schedules compared with the engine ",
+        get(cells, STATE, COMPARED),
+    );
+    print_sum(
+        b"of them cheaper than the engine ",
+        get(cells, STATE, CHEAPER),
+    );
+    print_sum(b"differences ", get(cells, STATE, DIFFERENCES));
 }

@@ -1,29 +1,23 @@
 // Din traces: right lines, and now and then a wrong one.
 use crate::asked;
-use crate::cells::copy;
+use crate::asked::Answer;
+use crate::cells::BYTES;
+use crate::cells::Cells;
 use crate::cells::less;
+use crate::cells::put;
 use crate::cells::sum;
 use crate::din_lines;
 use crate::din_lines::Reading;
 use crate::lent;
-use crate::lent::Lengths;
 use crate::run_trials;
 use crate::setups;
 use crate::state;
 use crate::state::between;
 use crate::state::draw;
-use trace_lines::Report;
 
-fn store(bytes: &mut [u8], at: u32, x: u32) {
-    let k = at as usize;
-    if k < bytes.len() {
-        bytes[k] = (x % 256) as u8;
-    }
-}
-
-// Puts a byte at `at`: the place after it.
-fn put_byte(bytes: &mut [u8], at: u32, x: u32) -> u32 {
-    store(bytes, at, x);
+// Puts a byte at `at`: the place after it. There is room for 8,192, more than the longest trace has.
+fn put_byte(cells: &mut Cells, at: u32, x: u32) -> u32 {
+    put(cells, BYTES, at, x);
     sum(at, 1)
 }
 
@@ -54,22 +48,22 @@ fn hex_digit(x: u32, upper: bool) -> u32 {
 }
 
 // The last `digits` digits of an address.
-fn put_address(bytes: &mut [u8], from: u32, address: u32, digits: u32, upper: bool) -> u32 {
+fn put_address(cells: &mut Cells, from: u32, address: u32, digits: u32, upper: bool) -> u32 {
     let mut at = from;
     let mut k = digits;
     while k > 0 {
         k -= 1;
-        at = put_byte(bytes, at, hex_digit(nibble(address, k), upper));
+        at = put_byte(cells, at, hex_digit(nibble(address, k), upper));
     }
     at
 }
 
 // n bytes of one kind.
-fn put_many(bytes: &mut [u8], from: u32, x: u32, n: u32) -> u32 {
+fn put_many(cells: &mut Cells, from: u32, x: u32, n: u32) -> u32 {
     let mut at = from;
     let mut k = 0;
     while k < n {
-        at = put_byte(bytes, at, x);
+        at = put_byte(cells, at, x);
         k += 1;
     }
     at
@@ -97,10 +91,10 @@ const EMPTY: u32 = 8;
 const LONG: u32 = 9;
 
 // The byte of a label.
-fn pick_label(state: &mut [u32], wrong: u32) -> u32 {
-    let label = draw(state, 3);
-    let high = between(state, 3, 9);
-    let letter = between(state, 58, 120);
+fn pick_label(cells: &mut Cells, wrong: u32) -> u32 {
+    let label = draw(cells, 3);
+    let high = between(cells, 3, 9);
+    let letter = between(cells, 58, 120);
     if wrong == LETTER {
         return letter;
     }
@@ -110,30 +104,35 @@ fn pick_label(state: &mut [u32], wrong: u32) -> u32 {
     sum(48, label)
 }
 
-fn pick_address(state: &mut [u32], wrong: u32) -> u32 {
-    let i = draw(state, 4) % 4;
-    let v = draw(state, 256) % 256;
-    let near = draw(state, 24) % 24;
-    let low = draw(state, 4) % 4;
-    let roll = draw(state, 2);
-    let other = between(state, 4, 255) % 256;
-    let past = between(state, 256, 4194303) % 4194304;
+// The address of a byte of variable v, of processor i.
+fn address_of(i: u32, v: u32, low: u32) -> u32 {
+    i % 256 * 16777216 + v % 4194304 * 4 + low % 4
+}
+
+fn pick_address(cells: &mut Cells, wrong: u32) -> u32 {
+    let i = draw(cells, 4);
+    let v = draw(cells, 256);
+    let near = draw(cells, 24);
+    let low = draw(cells, 4);
+    let roll = draw(cells, 2);
+    let other = between(cells, 4, 255);
+    let past = between(cells, 256, 4194303);
     if wrong == PROCESSOR {
-        return other * 16777216 + v * 4;
+        return address_of(other, v, 0);
     }
     if wrong == VARIABLE {
-        return i * 16777216 + past * 4 + low;
+        return address_of(i, past, low);
     }
     if roll == 0 {
-        return i * 16777216 + near * 4 + low;
+        return address_of(i, near, low);
     }
-    i * 16777216 + v * 4 + low
+    address_of(i, v, low)
 }
 
 // How many digits an address is written with: it may have zeros in front.
-fn pick_digits(state: &mut [u32], address: u32, wrong: u32) -> u32 {
-    let short = between(state, 1, 8);
-    let middle = between(state, 3, 8);
+fn pick_digits(cells: &mut Cells, address: u32, wrong: u32) -> u32 {
+    let short = between(cells, 1, 8);
+    let middle = between(cells, 3, 8);
     if wrong == NINE_DIGITS {
         return 9;
     }
@@ -149,181 +148,162 @@ fn pick_digits(state: &mut [u32], address: u32, wrong: u32) -> u32 {
     8
 }
 
-// What follows an address: nothing, a carriage return, or ignored text, up to a line of about 80 bytes.
-fn put_rest(state: &mut [u32], bytes: &mut [u8], start: u32, at: u32, wrong: u32) -> u32 {
-    let roll = draw(state, 10);
-    let n = draw(state, 12);
-    let x = between(state, 14, 255);
-    let width = between(state, 79, 82);
-    let other = between(state, 103, 126);
+// The byte after an address: a carriage return, the gap before ignored text, or one that may not stand there; 0 if the
+// line ends.
+fn gap_after(wrong: u32, roll: u32, other: u32) -> u32 {
     if wrong == OTHER_TEXT {
-        return put_byte(bytes, at, other);
+        return other;
     }
     if wrong == LONG {
-        let blank = put_byte(bytes, at, 32);
-        return put_many(bytes, blank, x, less(sum(start, width), blank));
+        return 32;
     }
     match roll {
-        0 => put_byte(bytes, at, 13),
-        1 => put_text(bytes, at, 32, x, n),
-        2 => put_text(bytes, at, 9, x, n),
-        3 => put_text(bytes, at, 13, x, n),
-        _ => at,
+        0 | 3 => 13,
+        1 => 32,
+        2 => 9,
+        _ => 0,
     }
+}
+
+// How many bytes of ignored text follow it: n, or up to the end of a line of about 80 bytes.
+fn text_after(wrong: u32, roll: u32, n: u32, at: u32, end: u32) -> u32 {
+    if wrong == OTHER_TEXT {
+        return 0;
+    }
+    if wrong == LONG {
+        return less(end, sum(at, 1));
+    }
+    if roll == 0 {
+        return 0;
+    }
+    n
+}
+
+// What follows an address, in a line from `start` on.
+fn put_rest(cells: &mut Cells, start: u32, at: u32, wrong: u32) -> u32 {
+    let roll = draw(cells, 10);
+    let n = draw(cells, 12);
+    let x = between(cells, 14, 255);
+    let width = between(cells, 79, 82);
+    let other = between(cells, 103, 126);
+    let gap = gap_after(wrong, roll, other);
+    if gap == 0 {
+        return at;
+    }
+    let text = text_after(wrong, roll, n, at, sum(start, width));
+    put_text(cells, at, gap, x, text)
 }
 
 // A gap, and n bytes of ignored text.
-fn put_text(bytes: &mut [u8], at: u32, gap: u32, x: u32, n: u32) -> u32 {
-    let from = put_byte(bytes, at, gap);
-    put_many(bytes, from, x, n)
+fn put_text(cells: &mut Cells, at: u32, gap: u32, x: u32, n: u32) -> u32 {
+    let from = put_byte(cells, at, gap);
+    put_many(cells, from, x, n)
 }
 
-// The blanks and tabs after a label.
-fn put_blanks(state: &mut [u32], bytes: &mut [u8], at: u32, wrong: u32) -> u32 {
-    let n = between(state, 1, 3);
-    let tab = draw(state, 4);
+// A blank; a tab once in a while.
+fn blank_of(tab: u32) -> u32 {
+    if tab == 0 {
+        return 9;
+    }
+    32
+}
+
+// The blanks after a label, the first of them perhaps a tab.
+fn put_blanks(cells: &mut Cells, at: u32, wrong: u32) -> u32 {
+    let n = between(cells, 1, 3);
+    let tab = draw(cells, 4);
     if wrong == NO_BLANK {
         return at;
     }
-    if tab == 0 {
-        let next = put_byte(bytes, at, 9);
-        return put_many(bytes, next, 32, less(n, 1));
-    }
-    put_many(bytes, at, 32, n)
+    put_text(cells, at, blank_of(tab), 32, less(n, 1))
 }
 
 // A line's parts in turn.
 fn put_parts(
-    state: &mut [u32],
-    bytes: &mut [u8],
+    cells: &mut Cells,
     start: u32,
     label: u32,
     address: u32,
     digits: u32,
     wrong: u32,
 ) -> u32 {
-    let upper = draw(state, 2) == 0;
-    let blank = put_byte(bytes, start, label);
-    let from = put_blanks(state, bytes, blank, wrong);
-    let to = put_address(bytes, from, address, digits, upper);
-    put_rest(state, bytes, start, to, wrong)
+    let upper = draw(cells, 2) == 0;
+    let blank = put_byte(cells, start, label);
+    let from = put_blanks(cells, blank, wrong);
+    let to = put_address(cells, from, address, digits, upper);
+    put_rest(cells, start, to, wrong)
 }
 
 // A line without its newline.
-fn put_line(state: &mut [u32], bytes: &mut [u8], start: u32, wrong: u32) -> u32 {
-    let label = pick_label(state, wrong);
-    let address = pick_address(state, wrong);
-    let digits = pick_digits(state, address, wrong);
+fn put_line(cells: &mut Cells, start: u32, wrong: u32) -> u32 {
+    let label = pick_label(cells, wrong);
+    let address = pick_address(cells, wrong);
+    let digits = pick_digits(cells, address, wrong);
     if wrong == EMPTY {
         return start;
     }
-    put_parts(state, bytes, start, label, address, digits, wrong)
+    put_parts(cells, start, label, address, digits, wrong)
 }
 
-fn put_whole_line(state: &mut [u32], bytes: &mut [u8], start: u32) -> u32 {
-    let wrong = draw(state, 200);
-    let end = put_line(state, bytes, start, wrong);
-    put_byte(bytes, end, 10)
+fn put_whole_line(cells: &mut Cells, start: u32) -> u32 {
+    let wrong = draw(cells, 200);
+    let end = put_line(cells, start, wrong);
+    put_byte(cells, end, 10)
 }
 
 // n lines: where they end.
-fn put_lines(state: &mut [u32], bytes: &mut [u8], n: u32) -> u32 {
+fn put_lines(cells: &mut Cells, n: u32) -> u32 {
     let mut at = 0;
     let mut k = 0;
     while k < n {
-        at = put_whole_line(state, bytes, at);
+        at = put_whole_line(cells, at);
         k += 1;
     }
     at
 }
 
 // A trace: its length. The last line may lack its newline.
-fn put_trace(state: &mut [u32], bytes: &mut [u8]) -> u32 {
-    let lines = draw(state, 90);
-    let end = put_lines(state, bytes, lines);
-    let cut = draw(state, 3);
+fn put_trace(cells: &mut Cells) -> u32 {
+    let lines = draw(cells, 90);
+    let end = put_lines(cells, lines);
+    let cut = draw(cells, 3);
     if cut == 0 {
         return less(end, 1);
     }
     end
 }
 
-// A trace of n bytes, and the lengths at which tables are lent for it.
-struct Text {
-    n: u32,
-    lengths: Lengths,
+// A trace, and the lengths at which tables are lent for it: the trace's length.
+fn pick_text(cells: &mut Cells) -> u32 {
+    state::begin(cells);
+    let n = put_trace(cells);
+    lent::put_lengths(cells, din_lines::trace_setup(), 0);
+    setups::perhaps_wrong_lengths(cells, 20);
+    n
 }
 
-fn pick_text(state: &mut [u32], bytes: &mut [u8]) -> Text {
-    state::begin(state);
-    let n = put_trace(state, bytes);
-    let setup = din_lines::trace_setup();
-    let lengths = setups::perhaps_wrong_lengths(state, lent::right_lengths(setup, 0), 20);
-    Text {
-        n: n,
-        lengths: lengths,
-    }
+fn trace_answer(reading: Reading) -> Answer {
+    let account = reading.account;
+    asked::answer_of(reading.refusal, reading.line as usize, 0, 0, account)
 }
 
-// What a trace's report differs in from the model's; 0 if in nothing.
-fn reports_differ(reading: Reading, report: Report) -> u32 {
-    if reading.refusal != report.refusal {
-        return state::REFUSAL;
-    }
-    if reading.line != report.line {
-        return state::PLACE;
-    }
-    let a = reading.account;
-    let b = report.account;
-    if run_trials::accounts_differ(a, b) {
-        return state::ACCOUNT;
-    }
-    0
+// A trace of n bytes in the model and by the entry.
+fn count_both(cells: &mut Cells, n: u32, case: u32) {
+    run_trials::copy_tables(cells);
+    let reading = din_lines::count(cells, n);
+    let what = run_trials::compare(
+        cells,
+        state::TRACE,
+        din_lines::trace_setup(),
+        setups::fresh_account(),
+        0,
+        n,
+        trace_answer(reading),
+    );
+    state::record(cells, state::TRACE, case, reading.refusal, what);
 }
 
-// A trace of n bytes in the model and by the entry: what differs.
-fn count_both(
-    bytes: &[u8],
-    n: u32,
-    lengths: Lengths,
-    facts: &mut [u32],
-    wanted: &mut [u32],
-    real: &mut [u32],
-) -> Counted {
-    copy(real, wanted, lent::CELLS);
-    let reading = din_lines::count(facts, wanted, lengths, bytes, n);
-    let report = asked::count(lengths, bytes, n, real);
-    let what = reports_differ(reading, report);
-    if what == 0 {
-        if run_trials::buffers_differ(real, wanted) {
-            return Counted {
-                refusal: reading.refusal,
-                what: state::BUFFERS,
-            };
-        }
-    }
-    Counted {
-        refusal: reading.refusal,
-        what: what,
-    }
-}
-
-struct Counted {
-    refusal: u32,
-    what: u32,
-}
-
-pub(crate) fn trace_case(
-    state: &mut [u32],
-    bytes: &mut [u8],
-    facts: &mut [u32],
-    wanted: &mut [u32],
-    real: &mut [u32],
-    case: u32,
-) {
-    let text = pick_text(state, bytes);
-    let lengths = text.lengths;
-    let counted = count_both(bytes, text.n, lengths, facts, wanted, real);
-    state::note(state, state::TRACE, counted.refusal);
-    state::judge(state, state::TRACE, case, counted.what);
+pub(crate) fn trace_case(cells: &mut Cells, case: u32) {
+    let n = pick_text(cells);
+    count_both(cells, n, case);
 }

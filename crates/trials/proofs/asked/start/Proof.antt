@@ -4,50 +4,20 @@ use borrow.Author.Needs.{needs}
 use Rattle.trials.proofs.asked.start.Statement.{statement}
 use Rattle.trials.proofs.asked.start.Tie as tie
 
-slice-aggregate-lend : tie.Need-slice-aggregate-lend
-slice-aggregate-lend c = search needs
+lend-table-requires : tie.Need-lend-table-requires
+lend-table-requires c κs = search needs
 
-lend-requires : tie.Need-lend-requires
-lend-requires c κs = search needs
+lend-table-requires-2 : tie.Need-lend-table-requires-2
+lend-table-requires-2 c κs = search needs
 
-slice-aggregate-lend-2 : tie.Need-slice-aggregate-lend-2
-slice-aggregate-lend-2 c = search needs
+lend-table-requires-3 : tie.Need-lend-table-requires-3
+lend-table-requires-3 c κs = search needs
 
-lend-requires-2 : tie.Need-lend-requires-2
-lend-requires-2 c κs = search needs
+lend-table-requires-4 : tie.Need-lend-table-requires-4
+lend-table-requires-4 c κs = search needs
 
-slice-aggregate-lend-3 : tie.Need-slice-aggregate-lend-3
-slice-aggregate-lend-3 c = search needs
-
-lend-requires-3 : tie.Need-lend-requires-3
-lend-requires-3 c κs = search needs
-
-slice-aggregate-lend-4 : tie.Need-slice-aggregate-lend-4
-slice-aggregate-lend-4 c = search needs
-
-lend-requires-4 : tie.Need-lend-requires-4
-lend-requires-4 c κs = search needs
-
-slice-aggregate-lend-5 : tie.Need-slice-aggregate-lend-5
-slice-aggregate-lend-5 c = search needs
-
-lend-requires-5 : tie.Need-lend-requires-5
-lend-requires-5 c κs = search needs
-
-at-most-requires : tie.Need-at-most-requires
-at-most-requires c κs = search needs
-
-at-most-requires-2 : tie.Need-at-most-requires-2
-at-most-requires-2 c κs = search needs
-
-at-most-requires-3 : tie.Need-at-most-requires-3
-at-most-requires-3 c κs = search needs
-
-at-most-requires-4 : tie.Need-at-most-requires-4
-at-most-requires-4 c κs = search needs
-
-at-most-requires-5 : tie.Need-at-most-requires-5
-at-most-requires-5 c κs = search needs
+lend-table-requires-5 : tie.Need-lend-table-requires-5
+lend-table-requires-5 c κs = search needs
 
 array-borrow-prefix-blocks : tie.Need-array-borrow-prefix-blocks
 array-borrow-prefix-blocks c = search needs
@@ -82,23 +52,20 @@ slice-aggregate-start-5 c = sym (length-take-le _ _ (search needs))
 start-requires : tie.Need-start-requires
 start-requires c κs = search needs
 
-back-lines-requires : tie.Need-back-lines-requires
-back-lines-requires c κs = search needs
+back-requires : tie.Need-back-requires
+back-requires c κs = search needs
 
-back-lines-requires-2 : tie.Need-back-lines-requires-2
-back-lines-requires-2 c κs = search needs
+back-requires-2 : tie.Need-back-requires-2
+back-requires-2 c κs = search needs
 
-back-lines-requires-3 : tie.Need-back-lines-requires-3
-back-lines-requires-3 c κs = search needs
+back-requires-3 : tie.Need-back-requires-3
+back-requires-3 c κs = search needs
 
-back-words-requires : tie.Need-back-words-requires
-back-words-requires c κs = search needs
+back-requires-4 : tie.Need-back-requires-4
+back-requires-4 c κs = search needs
 
-back-memory-requires : tie.Need-back-memory-requires
-back-memory-requires c κs = search needs
-
-same-length : tie.Need-same-length
-same-length c = search needs
+back-requires-5 : tie.Need-back-requires-5
+back-requires-5 c κs = search needs
 
 returns : tie.Need-returns
 returns c = search needs
@@ -107,21 +74,11 @@ pub start-spec : {M : Type 1} → statement M
 start-spec =
     tie.close
     (tie.spec
-    slice-aggregate-lend
-    lend-requires
-    slice-aggregate-lend-2
-    lend-requires-2
-    slice-aggregate-lend-3
-    lend-requires-3
-    slice-aggregate-lend-4
-    lend-requires-4
-    slice-aggregate-lend-5
-    lend-requires-5
-    at-most-requires
-    at-most-requires-2
-    at-most-requires-3
-    at-most-requires-4
-    at-most-requires-5
+    lend-table-requires
+    lend-table-requires-2
+    lend-table-requires-3
+    lend-table-requires-4
+    lend-table-requires-5
     array-borrow-prefix-blocks
     slice-aggregate-start
     array-borrow-prefix-counters
@@ -133,10 +90,9 @@ start-spec =
     array-borrow-prefix-memory
     slice-aggregate-start-5
     start-requires
-    back-lines-requires
-    back-lines-requires-2
-    back-lines-requires-3
-    back-words-requires
-    back-memory-requires
-    same-length
+    back-requires
+    back-requires-2
+    back-requires-3
+    back-requires-4
+    back-requires-5
     returns)

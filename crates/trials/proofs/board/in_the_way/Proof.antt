@@ -4,10 +4,10 @@ use Rattle.trials.proofs.board.in_the_way.Statement.{statement}
 use Rattle.trials.proofs.board.in_the_way.Tie as tie
 
 abbrev Inv-loop : tie.InvT-loop
-Inv-loop facts lines i b a₀ a = 0 ≤ a
+Inv-loop cells lines i b a₀ a = 0 ≤ a
 
 abbrev μ-loop : tie.MeasureT-loop
-μ-loop facts lines i b a₀ a = 256 - a
+μ-loop cells lines i b a₀ a = 256 - a
 
 loop-holds : tie.Need-loop-holds Inv-loop μ-loop
 loop-holds c = search needs

@@ -4,10 +4,10 @@ use Rattle.trials.proofs.board.other_holder.Statement.{statement}
 use Rattle.trials.proofs.board.other_holder.Tie as tie
 
 abbrev Inv-loop : tie.InvT-loop
-Inv-loop facts i b found₀ j₀ found j = 0 ≤ j
+Inv-loop cells i b found₀ j₀ found j = 0 ≤ j
 
 abbrev μ-loop : tie.MeasureT-loop
-μ-loop facts i b found₀ j₀ found j = j
+μ-loop cells i b found₀ j₀ found j = j
 
 loop-holds : tie.Need-loop-holds Inv-loop μ-loop
 loop-holds c = search needs

@@ -18,9 +18,6 @@ sum-requires c κs = search needs
 remainder-requires : tie.Need-remainder-requires Inv-loop μ-loop
 remainder-requires c κs = search needs
 
-sum-requires-2 : tie.Need-sum-requires-2 Inv-loop μ-loop
-sum-requires-2 c κs = search needs
-
 get-requires : tie.Need-get-requires Inv-loop μ-loop
 get-requires c κs = search needs
 
@@ -48,7 +45,6 @@ held-slot-spec =
     loop-holds
     sum-requires
     remainder-requires
-    sum-requires-2
     get-requires
     returns
     add-t

@@ -4,10 +4,10 @@ use Rattle.trials.proofs.din_lines.number.Statement.{statement}
 use Rattle.trials.proofs.din_lines.number.Tie as tie
 
 abbrev Inv-loop : tie.InvT-loop
-Inv-loop bytes start end value₀ k₀ value k = 0 ≤ k
+Inv-loop cells start end value₀ k₀ value k = 0 ≤ k
 
 abbrev μ-loop : tie.MeasureT-loop
-μ-loop bytes start end value₀ k₀ value k = end - k
+μ-loop cells start end value₀ k₀ value k = end - k
 
 loop-holds : tie.Need-loop-holds Inv-loop μ-loop
 loop-holds c = search needs

@@ -1,15 +1,13 @@
 use borrow.Author.Needs.{needs}
-use Prim.Native.Nat.{_-_}
-use mathlib.Core.Path.{_≡_}
-use lib.ListN.{length}
+use Prim.Native.Nat.{_≤_, _-_}
 use Rattle.trials.proofs.din_lines.read_lines.Statement.{statement}
 use Rattle.trials.proofs.din_lines.read_lines.Tie as tie
 
 abbrev Inv-loop : tie.InvT-loop
-Inv-loop facts₀ bytes n so-far₀ t₀ facts so-far t = length facts ≡ length facts₀
+Inv-loop cells₀ n so-far₀ t₀ cells so-far t = 0 ≤ t
 
 abbrev μ-loop : tie.MeasureT-loop
-μ-loop facts₀ bytes n so-far₀ t₀ facts so-far t = n - t
+μ-loop cells₀ n so-far₀ t₀ cells so-far t = n - t
 
 unread-requires : tie.Need-unread-requires Inv-loop μ-loop
 unread-requires c κs = search needs
@@ -29,9 +27,6 @@ loop-less c = search needs
 loop-again : tie.Need-loop-again Inv-loop μ-loop
 loop-again c = search needs
 
-same-length : tie.Need-same-length Inv-loop μ-loop
-same-length c = search needs
-
 returns : tie.Need-returns Inv-loop μ-loop
 returns c = search needs
 
@@ -47,5 +42,4 @@ read-lines-spec =
     add-t
     loop-less
     loop-again
-    same-length
     returns)

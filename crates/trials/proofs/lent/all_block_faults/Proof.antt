@@ -4,10 +4,10 @@ use Rattle.trials.proofs.lent.all_block_faults.Statement.{statement}
 use Rattle.trials.proofs.lent.all_block_faults.Tie as tie
 
 abbrev Inv-loop : tie.InvT-loop
-Inv-loop facts p faults₀ b₀ faults b = 0 ≤ b
+Inv-loop cells p faults₀ b₀ faults b = 0 ≤ b
 
 abbrev μ-loop : tie.MeasureT-loop
-μ-loop facts p faults₀ b₀ faults b = 256 - b
+μ-loop cells p faults₀ b₀ faults b = 256 - b
 
 loop-holds : tie.Need-loop-holds Inv-loop μ-loop
 loop-holds c = search needs

@@ -4,22 +4,19 @@ use Rattle.trials.proofs.lent.filled.Statement.{statement}
 use Rattle.trials.proofs.lent.filled.Tie as tie
 
 abbrev Inv-loop : tie.InvT-loop
-Inv-loop tables first n count₀ k₀ count k = 0 ≤ k
+Inv-loop cells first n count₀ k₀ count k = 0 ≤ k
 
 abbrev μ-loop : tie.MeasureT-loop
-μ-loop tables first n count₀ k₀ count k = n - k
+μ-loop cells first n count₀ k₀ count k = n - k
 
 loop-holds : tie.Need-loop-holds Inv-loop μ-loop
 loop-holds c = search needs
 
-sum-requires : tie.Need-sum-requires Inv-loop μ-loop
-sum-requires c κs = search needs
-
 get-requires : tie.Need-get-requires Inv-loop μ-loop
 get-requires c κs = search needs
 
-sum-requires-2 : tie.Need-sum-requires-2 Inv-loop μ-loop
-sum-requires-2 c κs = search needs
+sum-requires : tie.Need-sum-requires Inv-loop μ-loop
+sum-requires c κs = search needs
 
 add-k : tie.Need-add-k Inv-loop μ-loop
 add-k c = search needs
@@ -40,9 +37,8 @@ filled-spec =
     Inv-loop
     μ-loop
     loop-holds
-    sum-requires
     get-requires
-    sum-requires-2
+    sum-requires
     add-k
     loop-less
     loop-again

@@ -1,15 +1,13 @@
 use borrow.Author.Needs.{needs}
-use Prim.Native.Nat.{_-_}
-use mathlib.Core.Path.{_≡_}
-use lib.ListN.{length}
+use Prim.Native.Nat.{_≤_, _-_}
 use Rattle.trials.proofs.lent.lay_words.Statement.{statement}
 use Rattle.trials.proofs.lent.lay_words.Tie as tie
 
 abbrev Inv-loop : tie.InvT-loop
-Inv-loop facts tables₀ p n w₀ tables w = length tables ≡ length tables₀
+Inv-loop cells₀ p n w₀ cells w = 0 ≤ w
 
 abbrev μ-loop : tie.MeasureT-loop
-μ-loop facts tables₀ p n w₀ tables w = n - w
+μ-loop cells₀ p n w₀ cells w = n - w
 
 loop-holds : tie.Need-loop-holds Inv-loop μ-loop
 loop-holds c = search needs
@@ -26,22 +24,10 @@ loop-less c = search needs
 loop-again : tie.Need-loop-again Inv-loop μ-loop
 loop-again c = search needs
 
-same-length : tie.Need-same-length Inv-loop μ-loop
-same-length c = search needs
-
 returns : tie.Need-returns Inv-loop μ-loop
 returns c = search needs
 
 pub lay-words-spec : {M : Type 1} → statement M
 lay-words-spec =
     tie.close
-    (tie.spec
-    Inv-loop
-    μ-loop
-    loop-holds
-    lay-word-requires
-    add-w
-    loop-less
-    loop-again
-    same-length
-    returns)
+    (tie.spec Inv-loop μ-loop loop-holds lay-word-requires add-w loop-less loop-again returns)

@@ -1,15 +1,13 @@
 use borrow.Author.Needs.{needs}
-use Prim.Native.Nat.{_-_}
-use mathlib.Core.Path.{_≡_}
-use lib.ListN.{length}
+use Prim.Native.Nat.{_≤_, _-_}
 use Rattle.trials.proofs.lent.load_slots.Statement.{statement}
 use Rattle.trials.proofs.lent.load_slots.Tie as tie
 
 abbrev Inv-loop : tie.InvT-loop
-Inv-loop facts₀ tables setup n faults₀ k₀ facts faults k = length facts ≡ length facts₀
+Inv-loop cells₀ setup n faults₀ k₀ cells faults k = 0 ≤ k
 
 abbrev μ-loop : tie.MeasureT-loop
-μ-loop facts₀ tables setup n faults₀ k₀ facts faults k = n - k
+μ-loop cells₀ setup n faults₀ k₀ cells faults k = n - k
 
 loop-holds : tie.Need-loop-holds Inv-loop μ-loop
 loop-holds c = search needs
@@ -29,9 +27,6 @@ loop-less c = search needs
 loop-again : tie.Need-loop-again Inv-loop μ-loop
 loop-again c = search needs
 
-same-length : tie.Need-same-length Inv-loop μ-loop
-same-length c = search needs
-
 returns : tie.Need-returns Inv-loop μ-loop
 returns c = search needs
 
@@ -47,5 +42,4 @@ load-slots-spec =
     add-k
     loop-less
     loop-again
-    same-length
     returns)

@@ -1,15 +1,13 @@
 use borrow.Author.Needs.{needs}
-use Prim.Native.Nat.{_-_}
-use mathlib.Core.Path.{_≡_}
-use lib.ListN.{length}
+use Prim.Native.Nat.{_≤_, _-_}
 use Rattle.trials.proofs.lists.tight_requests.Statement.{statement}
 use Rattle.trials.proofs.lists.tight_requests.Tie as tie
 
 abbrev Inv-loop : tie.InvT-loop
-Inv-loop state₀ requests₀ p n t₀ state requests t = (length state ≡ length state₀) × (length requests ≡ length requests₀)
+Inv-loop cells₀ p n t₀ cells t = 0 ≤ t
 
 abbrev μ-loop : tie.MeasureT-loop
-μ-loop state₀ requests₀ p n t₀ state requests t = n - t
+μ-loop cells₀ p n t₀ cells t = n - t
 
 loop-holds : tie.Need-loop-holds Inv-loop μ-loop
 loop-holds c = search needs
@@ -26,26 +24,10 @@ loop-less c = search needs
 loop-again : tie.Need-loop-again Inv-loop μ-loop
 loop-again c = search needs
 
-same-length : tie.Need-same-length Inv-loop μ-loop
-same-length c = search needs
-
-same-length-2 : tie.Need-same-length-2 Inv-loop μ-loop
-same-length-2 c = search needs
-
 returns : tie.Need-returns Inv-loop μ-loop
 returns c = search needs
 
 pub tight-requests-spec : {M : Type 1} → statement M
 tight-requests-spec =
     tie.close
-    (tie.spec
-    Inv-loop
-    μ-loop
-    loop-holds
-    tight-request-requires
-    add-t
-    loop-less
-    loop-again
-    same-length
-    same-length-2
-    returns)
+    (tie.spec Inv-loop μ-loop loop-holds tight-request-requires add-t loop-less loop-again returns)

@@ -1,15 +1,13 @@
 use borrow.Author.Needs.{needs}
-use Prim.Native.Nat.{_-_}
-use mathlib.Core.Path.{_≡_}
-use lib.ListN.{length}
+use Prim.Native.Nat.{_≤_, _-_}
 use Rattle.trials.proofs.price_trials.build.Statement.{statement}
 use Rattle.trials.proofs.price_trials.build.Tie as tie
 
 abbrev Inv-loop : tie.InvT-loop
-Inv-loop state₀ facts₀ entries₀ setup requests n style turns at₀ t₀ state facts entries at t = (length state ≡ length state₀) × (length facts ≡ length facts₀) × (length entries ≡ length entries₀)
+Inv-loop cells₀ setup n style turns at₀ t₀ cells at t = 0 ≤ t
 
 abbrev μ-loop : tie.MeasureT-loop
-μ-loop state₀ facts₀ entries₀ setup requests n style turns at₀ t₀ state facts entries at t = turns - t
+μ-loop cells₀ setup n style turns at₀ t₀ cells at t = turns - t
 
 clear-requires : tie.Need-clear-requires Inv-loop μ-loop
 clear-requires c κs = search needs
@@ -32,15 +30,6 @@ loop-less c = search needs
 loop-again : tie.Need-loop-again Inv-loop μ-loop
 loop-again c = search needs
 
-same-length : tie.Need-same-length Inv-loop μ-loop
-same-length c = search needs
-
-same-length-2 : tie.Need-same-length-2 Inv-loop μ-loop
-same-length-2 c = search needs
-
-same-length-3 : tie.Need-same-length-3 Inv-loop μ-loop
-same-length-3 c = search needs
-
 returns : tie.Need-returns Inv-loop μ-loop
 returns c = search needs
 
@@ -57,7 +46,4 @@ build-spec =
     add-t
     loop-less
     loop-again
-    same-length
-    same-length-2
-    same-length-3
     returns)

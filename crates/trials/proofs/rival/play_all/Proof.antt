@@ -1,15 +1,13 @@
 use borrow.Author.Needs.{needs}
-use Prim.Native.Nat.{_-_}
-use mathlib.Core.Path.{_≡_}
-use lib.ListN.{length}
+use Prim.Native.Nat.{_≤_, _-_}
 use Rattle.trials.proofs.rival.play_all.Statement.{statement}
 use Rattle.trials.proofs.rival.play_all.Tie as tie
 
 abbrev Inv-loop : tie.InvT-loop
-Inv-loop facts₀ setup entries count requests n play₀ t₀ facts play t = length facts ≡ length facts₀
+Inv-loop cells₀ setup count n play₀ t₀ cells play t = 0 ≤ t
 
 abbrev μ-loop : tie.MeasureT-loop
-μ-loop facts₀ setup entries count requests n play₀ t₀ facts play t = count - t
+μ-loop cells₀ setup count n play₀ t₀ cells play t = count - t
 
 new-play-requires : tie.Need-new-play-requires Inv-loop μ-loop
 new-play-requires c κs = search needs
@@ -17,11 +15,8 @@ new-play-requires c κs = search needs
 loop-holds : tie.Need-loop-holds Inv-loop μ-loop
 loop-holds c = search needs
 
-entry-at-requires : tie.Need-entry-at-requires Inv-loop μ-loop
-entry-at-requires c κs = search needs
-
-play-entry-requires : tie.Need-play-entry-requires Inv-loop μ-loop
-play-entry-requires c κs = search needs
+play-next-requires : tie.Need-play-next-requires Inv-loop μ-loop
+play-next-requires c κs = search needs
 
 add-t : tie.Need-add-t Inv-loop μ-loop
 add-t c = search needs
@@ -31,9 +26,6 @@ loop-less c = search needs
 
 loop-again : tie.Need-loop-again Inv-loop μ-loop
 loop-again c = search needs
-
-same-length : tie.Need-same-length Inv-loop μ-loop
-same-length c = search needs
 
 returns : tie.Need-returns Inv-loop μ-loop
 returns c = search needs
@@ -46,10 +38,8 @@ play-all-spec =
     μ-loop
     new-play-requires
     loop-holds
-    entry-at-requires
-    play-entry-requires
+    play-next-requires
     add-t
     loop-less
     loop-again
-    same-length
     returns)

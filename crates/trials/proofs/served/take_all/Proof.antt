@@ -1,18 +1,16 @@
 use borrow.Author.Needs.{needs}
-use Prim.Native.Nat.{_-_}
-use mathlib.Core.Path.{_≡_}
-use lib.ListN.{length}
+use Prim.Native.Nat.{_≤_, _-_}
 use Rattle.trials.proofs.served.take_all.Statement.{statement}
 use Rattle.trials.proofs.served.take_all.Tie as tie
 
 abbrev Inv-loop : tie.InvT-loop
-Inv-loop facts₀ tables₀ setup requests n so-far₀ t₀ facts tables so-far t = (length facts ≡ length facts₀) × (length tables ≡ length tables₀)
+Inv-loop cells₀ setup n so-far₀ t₀ cells so-far t = 0 ≤ t
 
 abbrev μ-loop : tie.MeasureT-loop
-μ-loop facts₀ tables₀ setup requests n so-far₀ t₀ facts tables so-far t = n - t
+μ-loop cells₀ setup n so-far₀ t₀ cells so-far t = n - t
 
-stopped-requires : tie.Need-stopped-requires Inv-loop μ-loop
-stopped-requires c κs = search needs
+outcome-of-requires : tie.Need-outcome-of-requires Inv-loop μ-loop
+outcome-of-requires c κs = search needs
 
 loop-holds : tie.Need-loop-holds Inv-loop μ-loop
 loop-holds c = search needs
@@ -29,12 +27,6 @@ loop-less c = search needs
 loop-again : tie.Need-loop-again Inv-loop μ-loop
 loop-again c = search needs
 
-same-length : tie.Need-same-length Inv-loop μ-loop
-same-length c = search needs
-
-same-length-2 : tie.Need-same-length-2 Inv-loop μ-loop
-same-length-2 c = search needs
-
 returns : tie.Need-returns Inv-loop μ-loop
 returns c = search needs
 
@@ -44,12 +36,10 @@ take-all-spec =
     (tie.spec
     Inv-loop
     μ-loop
-    stopped-requires
+    outcome-of-requires
     loop-holds
     taken-next-requires
     add-t
     loop-less
     loop-again
-    same-length
-    same-length-2
     returns)

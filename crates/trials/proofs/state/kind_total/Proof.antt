@@ -4,10 +4,10 @@ use Rattle.trials.proofs.state.kind_total.Statement.{statement}
 use Rattle.trials.proofs.state.kind_total.Tie as tie
 
 abbrev Inv-loop : tie.InvT-loop
-Inv-loop state kind total₀ number₀ total number = 0 ≤ number
+Inv-loop cells kind total₀ number₀ total number = 0 ≤ number
 
 abbrev μ-loop : tie.MeasureT-loop
-μ-loop state kind total₀ number₀ total number = 32 - number
+μ-loop cells kind total₀ number₀ total number = 32 - number
 
 loop-holds : tie.Need-loop-holds Inv-loop μ-loop
 loop-holds c = search needs

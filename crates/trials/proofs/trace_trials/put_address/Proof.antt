@@ -1,14 +1,13 @@
 use borrow.Author.Needs.{needs}
-use mathlib.Core.Path.{_≡_}
-use lib.ListN.{length}
+use Prim.Native.Nat.{_≤_}
 use Rattle.trials.proofs.trace_trials.put_address.Statement.{statement}
 use Rattle.trials.proofs.trace_trials.put_address.Tie as tie
 
 abbrev Inv-loop : tie.InvT-loop
-Inv-loop bytes₀ from address digits upper at₀ k₀ bytes at k = length bytes ≡ length bytes₀
+Inv-loop cells₀ from address digits upper at₀ k₀ cells at k = 0 ≤ k
 
 abbrev μ-loop : tie.MeasureT-loop
-μ-loop bytes₀ from address digits upper at₀ k₀ bytes at k = k
+μ-loop cells₀ from address digits upper at₀ k₀ cells at k = k
 
 loop-holds : tie.Need-loop-holds Inv-loop μ-loop
 loop-holds c = search needs
@@ -31,9 +30,6 @@ loop-less c = search needs
 loop-again : tie.Need-loop-again Inv-loop μ-loop
 loop-again c = search needs
 
-same-length : tie.Need-same-length Inv-loop μ-loop
-same-length c = search needs
-
 returns : tie.Need-returns Inv-loop μ-loop
 returns c = search needs
 
@@ -50,5 +46,4 @@ put-address-spec =
     put-byte-requires
     loop-less
     loop-again
-    same-length
     returns)

@@ -1,15 +1,13 @@
 use borrow.Author.Needs.{needs}
-use Prim.Native.Nat.{_-_}
-use mathlib.Core.Path.{_≡_}
-use lib.ListN.{length}
+use Prim.Native.Nat.{_≤_, _-_}
 use Rattle.trials.proofs.trace_trials.put_lines.Statement.{statement}
 use Rattle.trials.proofs.trace_trials.put_lines.Tie as tie
 
 abbrev Inv-loop : tie.InvT-loop
-Inv-loop state₀ bytes₀ n at₀ k₀ state bytes at k = (length state ≡ length state₀) × (length bytes ≡ length bytes₀)
+Inv-loop cells₀ n at₀ k₀ cells at k = 0 ≤ k
 
 abbrev μ-loop : tie.MeasureT-loop
-μ-loop state₀ bytes₀ n at₀ k₀ state bytes at k = n - k
+μ-loop cells₀ n at₀ k₀ cells at k = n - k
 
 loop-holds : tie.Need-loop-holds Inv-loop μ-loop
 loop-holds c = search needs
@@ -26,12 +24,6 @@ loop-less c = search needs
 loop-again : tie.Need-loop-again Inv-loop μ-loop
 loop-again c = search needs
 
-same-length : tie.Need-same-length Inv-loop μ-loop
-same-length c = search needs
-
-same-length-2 : tie.Need-same-length-2 Inv-loop μ-loop
-same-length-2 c = search needs
-
 returns : tie.Need-returns Inv-loop μ-loop
 returns c = search needs
 
@@ -46,6 +38,4 @@ put-lines-spec =
     add-k
     loop-less
     loop-again
-    same-length
-    same-length-2
     returns)

@@ -1,15 +1,13 @@
 use borrow.Author.Needs.{needs}
-use Prim.Native.Nat.{_-_}
-use mathlib.Core.Path.{_≡_}
-use lib.ListN.{length}
+use Prim.Native.Nat.{_≤_, _-_}
 use Rattle.trials.proofs.trace_trials.put_many.Statement.{statement}
 use Rattle.trials.proofs.trace_trials.put_many.Tie as tie
 
 abbrev Inv-loop : tie.InvT-loop
-Inv-loop bytes₀ from x n at₀ k₀ bytes at k = length bytes ≡ length bytes₀
+Inv-loop cells₀ from x n at₀ k₀ cells at k = 0 ≤ k
 
 abbrev μ-loop : tie.MeasureT-loop
-μ-loop bytes₀ from x n at₀ k₀ bytes at k = n - k
+μ-loop cells₀ from x n at₀ k₀ cells at k = n - k
 
 loop-holds : tie.Need-loop-holds Inv-loop μ-loop
 loop-holds c = search needs
@@ -26,22 +24,10 @@ loop-less c = search needs
 loop-again : tie.Need-loop-again Inv-loop μ-loop
 loop-again c = search needs
 
-same-length : tie.Need-same-length Inv-loop μ-loop
-same-length c = search needs
-
 returns : tie.Need-returns Inv-loop μ-loop
 returns c = search needs
 
 pub put-many-spec : {M : Type 1} → statement M
 put-many-spec =
     tie.close
-    (tie.spec
-    Inv-loop
-    μ-loop
-    loop-holds
-    put-byte-requires
-    add-k
-    loop-less
-    loop-again
-    same-length
-    returns)
+    (tie.spec Inv-loop μ-loop loop-holds put-byte-requires add-k loop-less loop-again returns)

@@ -1,13 +1,13 @@
 use borrow.Author.Needs.{needs}
 use Prim.Native.Nat.{_≤_, _-_}
-use Rattle.trials.proofs.cells.first_difference.Statement.{statement}
-use Rattle.trials.proofs.cells.first_difference.Tie as tie
+use Rattle.trials.proofs.cells.differences.Statement.{statement}
+use Rattle.trials.proofs.cells.differences.Tie as tie
 
 abbrev Inv-loop : tie.InvT-loop
-Inv-loop a b n k₀ k = 0 ≤ k
+Inv-loop cells a b n count₀ k₀ count k = 0 ≤ k
 
 abbrev μ-loop : tie.MeasureT-loop
-μ-loop a b n k₀ k = n - k
+μ-loop cells a b n count₀ k₀ count k = n - k
 
 loop-holds : tie.Need-loop-holds Inv-loop μ-loop
 loop-holds c = search needs
@@ -18,8 +18,8 @@ get-requires c κs = search needs
 get-requires-2 : tie.Need-get-requires-2 Inv-loop μ-loop
 get-requires-2 c κs = search needs
 
-returns : tie.Need-returns Inv-loop μ-loop
-returns c = search needs
+sum-requires : tie.Need-sum-requires Inv-loop μ-loop
+sum-requires c κs = search needs
 
 add-k : tie.Need-add-k Inv-loop μ-loop
 add-k c = search needs
@@ -30,11 +30,11 @@ loop-less c = search needs
 loop-again : tie.Need-loop-again Inv-loop μ-loop
 loop-again c = search needs
 
-returns-2 : tie.Need-returns-2 Inv-loop μ-loop
-returns-2 c = search needs
+returns : tie.Need-returns Inv-loop μ-loop
+returns c = search needs
 
-pub first-difference-spec : {M : Type 1} → statement M
-first-difference-spec =
+pub differences-spec : {M : Type 1} → statement M
+differences-spec =
     tie.close
     (tie.spec
     Inv-loop
@@ -42,8 +42,8 @@ first-difference-spec =
     loop-holds
     get-requires
     get-requires-2
-    returns
+    sum-requires
     add-k
     loop-less
     loop-again
-    returns-2)
+    returns)

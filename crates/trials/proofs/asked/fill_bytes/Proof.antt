@@ -2,23 +2,26 @@ use borrow.Author.Needs.{needs}
 use Prim.Native.Nat.{_-_}
 use mathlib.Core.Path.{_≡_}
 use lib.ListN.{length}
-use Rattle.trials.proofs.lent.lay_cache.Statement.{statement}
-use Rattle.trials.proofs.lent.lay_cache.Tie as tie
+use Rattle.trials.proofs.asked.fill_bytes.Statement.{statement}
+use Rattle.trials.proofs.asked.fill_bytes.Tie as tie
 
 abbrev Inv-loop : tie.InvT-loop
-Inv-loop facts tables₀ setup i b₀ tables b = length tables ≡ length tables₀
+Inv-loop cells n to₀ k₀ to k = length to ≡ length to₀
 
 abbrev μ-loop : tie.MeasureT-loop
-μ-loop facts tables₀ setup i b₀ tables b = 256 - b
+μ-loop cells n to₀ k₀ to k = n - k
 
 loop-holds : tie.Need-loop-holds Inv-loop μ-loop
 loop-holds c = search needs
 
-lay-line-requires : tie.Need-lay-line-requires Inv-loop μ-loop
-lay-line-requires c κs = search needs
+get-requires : tie.Need-get-requires Inv-loop μ-loop
+get-requires c κs = search needs
 
-add-b : tie.Need-add-b Inv-loop μ-loop
-add-b c = search needs
+set-byte-requires : tie.Need-set-byte-requires Inv-loop μ-loop
+set-byte-requires c κs = search needs
+
+add-k : tie.Need-add-k Inv-loop μ-loop
+add-k c = search needs
 
 loop-less : tie.Need-loop-less Inv-loop μ-loop
 loop-less c = search needs
@@ -32,15 +35,16 @@ same-length c = search needs
 returns : tie.Need-returns Inv-loop μ-loop
 returns c = search needs
 
-pub lay-cache-spec : {M : Type 1} → statement M
-lay-cache-spec =
+pub fill-bytes-spec : {M : Type 1} → statement M
+fill-bytes-spec =
     tie.close
     (tie.spec
     Inv-loop
     μ-loop
     loop-holds
-    lay-line-requires
-    add-b
+    get-requires
+    set-byte-requires
+    add-k
     loop-less
     loop-again
     same-length
