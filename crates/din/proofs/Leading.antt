@@ -1,18 +1,17 @@
--- A line's bytes place by place: the leading ones that pass, their number, and a line that takes them.
+-- A line's bytes place by place: the leading ones that pass, and their number.
 use Prim.Native.Nat.{ℕ, _+_, _-_, _*_, _^_, _≤_, _<_}
 use mathlib.Core.Path.{_≡_, refl, sym, ap, _∙_}
 use mathlib.Core.Bool.{Bool, true, false, cond}
 use mathlib.Core.List.{List, [], _∷_}
 use native.Mathlib.Numerals.{add-one}
+use native.Mathlib.Nat.{mod-eq-of-lt, pow-suc, pow-le-pow-right}
 use native.Mathlib.Omega.{arith}
 use lib.ListN.{length, take, drop, getD, length-drop}
 use lib.Seq.{drop-cons, drop-length, drop-drop}
 use lib.Dec.{leb, ltb}
-use borrow.Author.Tests.{lt-ltb, le-ltb, ltb-false, leb-true, eq-eqb, ne-eqb}
+use borrow.Author.Tests.{lt-ltb, le-ltb, ltb-true, ltb-false, leb-true, eq-eqb, ne-eqb}
 use Rattle.din.specs.Lines.{isText, isDigit, hexValue, isHex, leading, behind, hexNumber}
-use Rattle.din.specs.Automaton.{shiftedAll, withByte, withBytes}
-use Rattle.din.specs.declared.Line.{Line}
-use Rattle.din.proofs.Reading.{shifted-fits, hex-lt}
+use Rattle.din.specs.Digits.{shifted, shiftedAll}
 
 -- ---- from a place on
 
@@ -103,6 +102,15 @@ unfolding isHex
 not-hex b d e h = le-ltb (hexValue b) 16 (omega (arith, e, h))
 
 -- of at most 8 digits none is lost
+pub shifted-fits : (n v h : ℕ) → n < 8 → v < 16 ^ n → h < 16 → (shifted v h ≡ v * 16 + h) × (v * 16 + h < 16 ^ (n + 1))
+shifted-fits n v h hn hv hh =
+    let small : v < 268435456 = omega (arith, pow-le-pow-right {n = 16} (omega arith) {i = n} {j = 7} (omega arith)) in
+    (ap (λ (x : ℕ). x * 16 + h) (mod-eq-of-lt small), rw add-one (omega (arith, pow-suc 16 n)))
+
+pub hex-lt : (b : ℕ) → isHex b ≡ true → hexValue b < 16
+unfolding isHex
+hex-lt b h = ltb-true _ _ h
+
 abbrev Kept : List ℕ → Type 0
 Kept l = (n v : ℕ) → n + length (leading isHex l) ≤ 8 → v < 16 ^ n → shiftedAll v (leading isHex l) ≡ hexNumber v (leading isHex l)
 
@@ -119,14 +127,6 @@ kept (b ∷ l) = kept-more b l (kept l) (isHex b) refl
 
 pub digits-kept : (l : List ℕ) → length (leading isHex l) ≤ 8 → shiftedAll 0 (leading isHex l) ≡ hexNumber 0 (leading isHex l)
 digits-kept l h = kept l 0 0 (omega (arith, h)) (omega arith)
-
--- ---- a line that takes bytes
-
-pub bytes-step : (x : Line) (l : List ℕ) (i : ℕ) → i < length l → withBytes x (drop i l) ≡ withBytes (withByte x (getD l i 0)) (drop (i + 1) l)
-bytes-step x l i h = rw (add-one, drop-cons l i 0)
-
-pub bytes-end : (x : Line) (l : List ℕ) (i : ℕ) → i ≡ length l → withBytes x (drop i l) ≡ x
-bytes-end x l i e = rw (e, drop-length)
 
 -- ---- newlines
 

@@ -1,4 +1,3 @@
 pub mod Leading
-pub mod Reading
 pub mod Parsing
 pub mod Splitting

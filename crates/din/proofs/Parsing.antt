@@ -9,7 +9,7 @@ use lib.Seq.{drop-cons}
 use lib.Dec.{leb}
 use borrow.Author.Tests.{le-leb, lt-leb, eqb-true, not-false}
 use Rattle.din.specs.Lines.{isText, isDigit, isBlank, isGap, hexValue, isHex, leading, behind, ends, addressed, separated, parsedLine, parsed}
-use Rattle.din.specs.Automaton.{shiftedAll}
+use Rattle.din.specs.Digits.{shiftedAll}
 use Rattle.din.specs.declared.Parsed.{Parsed}
 use Rattle.din.specs.declared.Parsed.the-variants.{Malformed, Labelled}
 use Rattle.din.proofs.Leading.{leads, Ends-at, rest-at, drop-leading, leading-short, leading-within, digit-bounds, digits-kept, is-text}
@@ -132,22 +132,23 @@ address-last d s i e z v x y h k m n = ap (Labelled d) n ∙ sym (digits-few d s
 
 -- ---- the line
 
-narrow-or-wide : (l : List ℕ) → parsedLine l ≡ Malformed → (c : Bool) → leb (length l) 80 ≡ c → Malformed ≡ parsed l
+width-test : (l : List ℕ) (c : Bool) → leb (length l) 80 ≡ c → parsed l ≡ cond c (parsedLine l) Malformed
 unfolding parsed
-narrow-or-wide l h true e = simp (e, h)
-narrow-or-wide l h false e = simp e
+width-test l c e = ap (λ (b : Bool). cond b (parsedLine l) Malformed) e
+
+narrow : (l : List ℕ) → length l ≤ 80 → parsedLine l ≡ parsed l
+narrow l h = sym (width-test l true (le-leb (length l) 80 h))
+
+too-wide : (l : List ℕ) → 80 < length l → Malformed ≡ parsed l
+too-wide l h = sym (width-test l false (lt-leb (length l) 80 h))
+
+narrow-or-wide : (l : List ℕ) → parsedLine l ≡ Malformed → (c : Bool) → leb (length l) 80 ≡ c → Malformed ≡ parsed l
+narrow-or-wide l h true e = sym (width-test l true e ∙ h)
+narrow-or-wide l h false e = sym (width-test l false e)
 
 -- whatever its width
 malformed-line : (l : List ℕ) → parsedLine l ≡ Malformed → Malformed ≡ parsed l
 malformed-line l h = narrow-or-wide l h (leb (length l) 80) refl
-
-too-wide : (l : List ℕ) → 80 < length l → Malformed ≡ parsed l
-unfolding parsed
-too-wide l h = simp (lt-leb (length l) 80 h)
-
-narrow : (l : List ℕ) → length l ≤ 80 → parsedLine l ≡ parsed l
-unfolding parsed
-narrow l h = simp (le-leb (length l) 80 h)
 
 -- the first line of the bytes s: no bytes at all
 pub no-bytes : (s : List ℕ) → length s < 1 → (0 ≡ length (leading isText s)) × (Malformed ≡ parsed (leading isText s))

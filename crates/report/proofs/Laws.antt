@@ -11,8 +11,9 @@ use lib.Signed.{ltZ, leZ}
 use Rattle.io.specs.Counts.{clamped}
 use Rattle.protocol.specs.Tables.{Tables, fresh}
 use Rattle.trace_lines.specs.Trace.{traceSetup, Ended, report}
-use Rattle.trace.specs.Counting.{Stage, freshCount, fed, finished, Ready}
-use Rattle.trace.specs.declared.Count.{Count}
+use Rattle.trace_count.specs.Counting.{Stage, freshCount, Ready}
+use Rattle.trace_count.specs.declared.Count.{Count}
+use Rattle.trace.specs.Feeding.{fed, finished}
 use Rattle.trace.proofs.Laws.{ready-fresh, fresh-stage}
 use Rattle.trace.proofs.Feeding.{fed-append, ready-fed}
 use Rattle.trace.proofs.Whole.{fed-ended}

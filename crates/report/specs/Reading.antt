@@ -11,7 +11,8 @@ use Rattle.io.specs.Counts.{clamped}
 use Rattle.protocol.specs.Refusals.{noRefusal}
 use Rattle.protocol.specs.Tables.{fresh}
 use Rattle.trace_lines.specs.Trace.{traceSetup, report}
-use Rattle.trace.specs.Counting.{Stage, stage, freshCount, fed}
+use Rattle.trace_count.specs.Counting.{Stage, stage, freshCount}
+use Rattle.trace.specs.Feeding.{fed}
 use Rattle.report.specs.declared.Progress.{Progress}
 use Rattle.report.specs.declared.Answer.{Answer}
 

@@ -2,12 +2,12 @@
 ghost use mathlib.Core.Path.{_≡_};
 ghost use Rattle.protocol.specs.Tables.{tables, fresh};
 ghost use Rattle.trace_lines.specs.Trace.{traceSetup};
-ghost use Rattle.trace.specs.Counting.{stage, Ready};
+ghost use Rattle.trace_count.specs.Counting.{stage, Ready};
 ghost use Rattle.report.specs.Reading.{readOf, reading, afterRead, Took, Reached, Reported};
 use libc::STDERR_FILENO;
 use libc::STDIN_FILENO;
 use libc::STDOUT_FILENO;
-use trace::Count;
+use trace_count::Count;
 use trace_lines::Report;
 
 // A trace after a read: whether to read on, whether a read failed, and what was counted.

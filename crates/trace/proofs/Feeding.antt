@@ -10,14 +10,15 @@ use lib.Seq.{drop-cons, drop-length, drop-drop, take-all, take-length}
 use lib.Dec.{eqb}
 use borrow.Author.Tests.{not-true, not-false, eq-eqb}
 use Rattle.din.specs.Lines.{isText, leading, behind, parsed}
-use Rattle.din.specs.Automaton.{withBytes, scanParsed}
-use Rattle.din.specs.declared.Line.{Line}
+use Rattle.din_scan.specs.Automaton.{withBytes, scanParsed}
+use Rattle.din_scan.specs.declared.Line.{Line}
 use Rattle.din.proofs.Leading.{Ends-at, take-leading, drop-leading, leading-short, fails-at}
-use Rattle.din.proofs.Reading.{read-parsed}
+use Rattle.din_scan.proofs.Reading.{read-parsed}
 use Rattle.din.specs.declared.Parsed.{Parsed}
 use Rattle.protocol.specs.Refusals.{noRefusal}
 use Rattle.protocol.specs.Runs.{State}
-use Rattle.trace.specs.Counting.{Stage, stateOf, lineNumber, withinLine, goingOn, judged, lineEnded, lengthened, stepped, fed, Ready}
+use Rattle.trace_count.specs.Counting.{Stage, stateOf, goingOn, judged, Ready}
+use Rattle.trace.specs.Feeding.{lineNumber, withinLine, lineEnded, lengthened, stepped, fed}
 use Rattle.trace.proofs.Laws.{ready-stepped, ended-as}
 
 -- where the input is cut plays no part

@@ -12,12 +12,13 @@ use Rattle.protocol.specs.Runs.{State}
 use Rattle.competitive.specs.Claims.{opening}
 use Rattle.protocol.specs.Accounts.{freshAccount}
 use Rattle.din.specs.Lines.{ahead, linesOf, parsed}
-use Rattle.din.specs.Automaton.{newLine, withBytes}
+use Rattle.din_scan.specs.Automaton.{newLine, withBytes}
 use Rattle.din.specs.declared.Parsed.{Parsed}
 use Rattle.din.specs.declared.Parsed.the-variants.{Malformed, Labelled}
-use Rattle.din.proofs.Reading.{read-parsed, read-more, width-some}
+use Rattle.din_scan.proofs.Reading.{read-parsed, read-more, width-some}
 use Rattle.trace_lines.specs.Trace.{traceSetup, lineRefusal, after, afterLine, stopped, traced, ended}
-use Rattle.trace.specs.Counting.{Stage, freshCount, withinLine, goingOn, refusedBy, judged, lineEnded, stepped, fed, reported, closed, finished}
+use Rattle.trace_count.specs.Counting.{Stage, freshCount, goingOn, refusedBy, judged, reported}
+use Rattle.trace.specs.Feeding.{withinLine, lineEnded, stepped, fed, closed, finished}
 use Rattle.trace.proofs.Feeding.{refused-stays}
 
 -- ---- the bytes p of an unfinished line, in front of the lines of what follows

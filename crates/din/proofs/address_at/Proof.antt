@@ -4,7 +4,7 @@ use native.Mathlib.Omega.{arith}
 use lib.ListN.{length, drop}
 use borrow.Author.Needs.{needs}
 use Rattle.din.specs.Lines.{isHex, leading}
-use Rattle.din.specs.Automaton.{shifted, shiftedAll}
+use Rattle.din.specs.Digits.{shifted, shiftedAll}
 use Rattle.din.proofs.Leading.{leads, leads-not, leads-end, is-hex, not-hex}
 use Rattle.din.proofs.address_at.Statement.{statement}
 use Rattle.din.proofs.address_at.Tie as tie

@@ -1,6 +1,6 @@
 use mir.Facts.{toZ-ofZ}
 use denote.Ref.{now}
-use Rattle.trace.specs.Counting.{stage}
+use Rattle.trace_count.specs.Counting.{stage}
 use Rattle.report.proofs.Laws.{read-none, read-bytes}
 use borrow.Author.Needs.{needs}
 use Rattle.report.proofs.count_read.Statement.{statement}

@@ -1,5 +1,6 @@
 use mathlib.Core.Path.{sym, ap, _∙_, subst}
-use Rattle.trace.specs.Counting.{Stage, fed, finished, Ready}
+use Rattle.trace_count.specs.Counting.{Stage, Ready}
+use Rattle.trace.specs.Feeding.{fed, finished}
 use Rattle.trace.proofs.Laws.{ready-fresh, fresh-stage}
 use Rattle.trace.proofs.Feeding.{ready-fed}
 use Rattle.trace.proofs.Whole.{fed-ended}

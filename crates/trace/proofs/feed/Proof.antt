@@ -7,8 +7,9 @@ use borrow.Author.Needs.{needs}
 use borrow.Author.Tests.{ne-eqb}
 use Rattle.din.specs.Lines.{isText}
 use Rattle.din.proofs.Leading.{leading-short}
-use Rattle.trace.specs.Counting.{Stage, fed, Ready}
-use Rattle.trace.proofs.Laws.{ready-judged, judged-on}
+use Rattle.trace_count.specs.Counting.{Stage, Ready}
+use Rattle.trace_count.proofs.Laws.{ready-judged, judged-on}
+use Rattle.trace.specs.Feeding.{fed}
 use Rattle.trace.proofs.Feeding.{refused-stays, fed-more, fed-ends}
 use Rattle.trace.proofs.feed.Statement.{statement}
 use Rattle.trace.proofs.feed.Tie as tie

@@ -6,9 +6,10 @@ use lib.ListN.{length, take, drop, length-drop}
 use borrow.Author.Needs.{needs}
 use borrow.Author.Tests.{ne-eqb}
 use Rattle.din.specs.Lines.{isText, leading}
-use Rattle.trace.specs.Counting.{state, goingOn, fed, Stage, Ready}
-use Rattle.trace.specs.declared.Count.{Count}
-use Rattle.trace.proofs.Laws.{ready-judged, judged-on}
+use Rattle.trace_count.specs.Counting.{state, goingOn, Stage, Ready}
+use Rattle.trace_count.specs.declared.Count.{Count}
+use Rattle.trace_count.proofs.Laws.{ready-judged, judged-on}
+use Rattle.trace.specs.Feeding.{fed}
 use Rattle.trace.proofs.Feeding.{rest-part, next-within, refused-stays, fed-within, fed-judged}
 use Rattle.trace.proofs.feed_lines.Statement.{statement}
 use Rattle.trace.proofs.feed_lines.Tie as tie

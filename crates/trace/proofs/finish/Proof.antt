@@ -1,5 +1,5 @@
 use mathlib.Core.Path.{sym, subst, _∙_}
-use Rattle.trace.specs.Counting.{Stage, Bounded}
+use Rattle.trace_count.specs.Counting.{Stage, Bounded}
 use Rattle.trace.proofs.Laws.{ready-ended, ended-as, finished-refused, finished-between, finished-within}
 use native.Mathlib.Omega.{arith}
 use borrow.Author.Needs.{needs}

@@ -1,0 +1,63 @@
+use Rattle.din_scan.specs.Automaton.{scanParsed}
+use borrow.Author.Needs.{needs}
+use Rattle.din_scan.proofs.Scan.parsed.Statement.{statement}
+use Rattle.din_scan.proofs.Scan.parsed.Tie as tie
+
+enum-known-self : tie.Need-enum-known-self
+enum-known-self c = search needs
+
+enum-known-self-2 : tie.Need-enum-known-self-2
+enum-known-self-2 c = search needs
+
+enum-told : tie.Need-enum-told
+enum-told c = search needs
+
+enum-told-2 : tie.Need-enum-told-2
+enum-told-2 c = search needs
+
+enum-told-3 : tie.Need-enum-told-3
+enum-told-3 c = search needs
+
+enum-told-4 : tie.Need-enum-told-4
+enum-told-4 c = search needs
+
+returns : tie.Need-returns
+unfolding scanParsed
+returns c = rw (c .before .self .given .1)
+
+returns-2 : tie.Need-returns-2
+unfolding scanParsed
+returns-2 c = rw (c .before .self2 .given .1)
+
+returns-3 : tie.Need-returns-3
+unfolding scanParsed
+returns-3 c = rw (c .enum-told .given .1)
+
+returns-4 : tie.Need-returns-4
+unfolding scanParsed
+returns-4 c = rw (c .enum-told2 .given .1)
+
+returns-5 : tie.Need-returns-5
+unfolding scanParsed
+returns-5 c = rw (c .enum-told3 .given .1)
+
+returns-6 : tie.Need-returns-6
+unfolding scanParsed
+returns-6 c = rw (c .enum-told4 .given .1)
+
+pub parsed-spec : {M : Type 1} → statement M
+parsed-spec =
+    tie.close
+    (tie.spec
+    enum-known-self
+    enum-known-self-2
+    enum-told
+    enum-told-2
+    enum-told-3
+    enum-told-4
+    returns
+    returns-2
+    returns-3
+    returns-4
+    returns-5
+    returns-6)

@@ -1,0 +1,19 @@
+use mathlib.Core.Path.{sym, _∙_}
+use Rattle.din_scan.specs.Automaton.{scannedByte}
+use borrow.Author.Needs.{needs}
+use Rattle.din_scan.proofs.after_label.Statement.{statement}
+use Rattle.din_scan.proofs.after_label.Tie as tie
+
+is-blank-requires : tie.Need-is-blank-requires
+is-blank-requires c κs = search needs
+
+returns : tie.Need-returns
+unfolding scannedByte
+returns c = simp (sym (c .before .is-blank .ensures) ∙ c .if1 .taken)
+
+returns-2 : tie.Need-returns-2
+unfolding scannedByte
+returns-2 c = simp (sym (c .before .is-blank .ensures) ∙ c .if1 .left)
+
+pub after-label-spec : {M : Type 1} → statement M
+after-label-spec = tie.close (tie.spec is-blank-requires returns returns-2)
