@@ -10,7 +10,9 @@ ghost use Rattle.protocol.specs.Runs.{answered, startRefusal, started, run as r
 ghost use Rattle.protocol.specs.Pricer.{price as priced, priceTables, numberOf, placeOf, costOf};
 ghost use Rattle.run.specs.Outcomes.{outcome};
 ghost use Rattle.trace_lines.specs.Trace.{endedOn};
-ghost use Rattle.numbers.specs.Numbers.{requestsOf, entriesOf, accountOf, lookLength, lookOffset};
+ghost use Rattle.decoding.specs.Records.{requestsOf, entriesOf};
+ghost use Rattle.numbers.specs.Numbers.{accountOf};
+ghost use Rattle.looks.specs.Looks.{lookLength, lookOffset};
 ghost use Rattle.host.specs.Host.{setupOf, blockNumbered, reportOf, Told};
 
 // A setup by its four numbers.
@@ -61,7 +63,7 @@ pub extern "C" fn cuzkelor_look_length(
     ensures { λ r. ⌜ r ≡ lookLength (setupOf processors lines «block_words» «block_count») (now (blocks .entry)) (now (counters .entry)) (now (words .entry)) processor (blockNumbered block) ⌝ }
 {
     let setup = setup_of(processors, lines, block_words, block_count);
-    numbers::look_length(setup, processor, Block(block), blocks, counters, words)
+    looks::look_length(setup, processor, Block(block), blocks, counters, words)
 }
 
 // Where that part begins.
@@ -80,7 +82,7 @@ pub extern "C" fn cuzkelor_look_offset(
     ensures { λ r. ⌜ r ≡ lookOffset (setupOf processors lines «block_words» «block_count») (now (blocks .entry)) (now (counters .entry)) (now (words .entry)) processor (blockNumbered block) ⌝ }
 {
     let setup = setup_of(processors, lines, block_words, block_count);
-    numbers::look_offset(setup, processor, Block(block), blocks, counters, words)
+    looks::look_offset(setup, processor, Block(block), blocks, counters, words)
 }
 
 // A run of the requests, four numbers each. The refusal number, or 0.

@@ -1,4 +1,2 @@
-pub mod Decoding
-pub mod Looks
 mod Runs
 mod Prices

@@ -12,8 +12,8 @@ use Rattle.protocol.specs.declared.Request.{Request}
 use Rattle.protocol.specs.declared.Entry.{Entry}
 use Rattle.pricing.specs.Stages.{Stage, begun, took, completed}
 use Rattle.pricer.proofs.Loop.{no-entry, no-request, Inv, μ, inv-start, at-entry, inv-took, falls-took, at-request, inv-completed, falls-completed}
-use Rattle.numbers.specs.Numbers.{requestOf, requestsOf, entryOf, entriesOf}
-use Rattle.numbers.proofs.Decoding.{request-count, request-at as request-is, entry-count, entry-at as entry-is}
+use Rattle.decoding.specs.Records.{requestOf, requestsOf, entryOf, entriesOf}
+use Rattle.decoding.proofs.Decoding.{request-count, request-at as request-is, entry-count, entry-at as entry-is}
 
 module _ (s : Setup) (r : Rival) (ms ns : List ℕ) where
   abbrev pub Invariant : Stage → Type 0
@@ -22,10 +22,8 @@ module _ (s : Setup) (r : Rival) (ms ns : List ℕ) where
   abbrev pub measure : Stage → ℕ
   measure x = μ s r (entriesOf ms) (requestsOf ns) x
 
-  pub begins : Invariant (begun s r (length ms / 3) (length ns / 4))
-  begins =
-      subst (λ (n : ℕ). Invariant (begun s r (length ms / 3) n)) (request-count ns)
-      (subst (λ (m : ℕ). Invariant (begun s r m (length (requestsOf ns)))) (entry-count ms) (inv-start s r (entriesOf ms) (requestsOf ns)))
+  pub begins : (m n : ℕ) → m ≡ length (entriesOf ms) → n ≡ length (requestsOf ns) → Invariant (begun s r m n)
+  begins m n em en = rw (em, en) (inv-start s r (entriesOf ms) (requestsOf ns))
 
   module _ (x : Stage) (i : Invariant x) (go : x .progress .going ≡ true) where
     -- ---- an entry

@@ -13,14 +13,14 @@ use Rattle.protocol.specs.declared.Account.{Account}
 use Rattle.protocol.specs.declared.Request.{Request}
 use Rattle.steps.specs.Steps.{Room, Stage, begun, turned}
 use Rattle.run.proofs.Loop.{no-request, Small, Inv, μ, inv-start, inv-within, inv-turn, inv-falls}
-use Rattle.numbers.specs.Numbers.{requestOf, requestsOf}
-use Rattle.numbers.proofs.Decoding.{request-count, request-at}
+use Rattle.decoding.specs.Records.{requestOf, requestsOf}
+use Rattle.decoding.proofs.Decoding.{request-count, request-at}
 
 module _ (s : Setup) (t : Tables) (a : Account) (ns : List ℕ) (vs : List ℕ) where
-  pub begins : Room a 0 nothing → Inv s t a (requestsOf ns) vs (record { progress = begun s t a (length ns / 4) vs; tables = t; values = vs })
-  begins h =
+  pub begins : Room a 0 nothing → (n : ℕ) → n ≡ length (requestsOf ns) → Inv s t a (requestsOf ns) vs (record { progress = begun s t a n vs; tables = t; values = vs })
+  begins h n e =
       let small : Small a = (omega (arith, h .requests), (omega (arith, h .fetch), (omega (arith, h .write-back), omega (arith, h .update)))) in
-      subst (λ (n : ℕ). Inv s t a (requestsOf ns) vs (record { progress = begun s t a n vs; tables = t; values = vs })) (request-count ns) (inv-start s t a (requestsOf ns) vs small)
+      rw e (inv-start s t a (requestsOf ns) vs small)
 
   module _ (x : Stage) (i : Inv s t a (requestsOf ns) vs x) (go : x .progress .going ≡ true) where
     abbrev k : ℕ

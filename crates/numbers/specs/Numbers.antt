@@ -1,60 +1,7 @@
--- Requests, a schedule's entries and a look as plain numbers, for hosts that know no other types. Every number names something, so nothing more can be refused.
+-- An account as plain numbers, for hosts that know no other types.
 use Prim.Native.Nat.{ℕ}
-use mathlib.Core.Bool.{cond}
-use mathlib.Core.List.{List, [], _∷_}
-use lib.ListN.{length}
-use lib.Dec.{eqb}
-use Rattle.protocol.specs.Board.{slot, wordIndex}
-use Rattle.protocol.specs.Runs.{looked}
-use Rattle.protocol.specs.declared.Setup.{Setup}
-use Rattle.protocol.specs.declared.Block.{Block}
-use Rattle.protocol.specs.declared.Operation.the-variants.{Read, Write}
-use Rattle.protocol.specs.declared.Request.{Request}
 use Rattle.protocol.specs.declared.Account.{Account}
-use Rattle.protocol.specs.declared.Entry.{Entry}
-use Rattle.protocol.specs.declared.Entry.the-variants.{Fetch, WriteBack, Drop, Complete, CompleteByBroadcast}
-
--- ---- requests
-
--- processor i, operation o, variable v, value x: operation 1 writes, any other number reads
-unfoldable pub requestOf : ℕ → ℕ → ℕ → ℕ → Request
-requestOf i o v x = record { processor = i; operation = cond (eqb o 1) (Write (record { 0 = v }) x) (Read (record { 0 = v })) }
-
--- four numbers at a time; fewer than four at the end name no request
-abbrev pub requestsOf : List ℕ → List Request
-requestsOf [] = []
-requestsOf (i ∷ []) = []
-requestsOf (i ∷ o ∷ []) = []
-requestsOf (i ∷ o ∷ v ∷ []) = []
-requestsOf (i ∷ o ∷ v ∷ x ∷ ns) = requestOf i o v x ∷ requestsOf ns
-
--- ---- an account
 
 -- requests taken, then fetch, write-back and update cycles
 abbrev pub accountOf : ℕ → ℕ → ℕ → ℕ → Account
 accountOf n f w u = record { requests = n; fetch = f; «write_back» = w; update = u }
-
--- ---- a schedule's entries
-
--- kind k, processor i, block b: 0 fetch, 1 write back, 2 drop, 3 complete, any other number completes by broadcast
-unfoldable pub entryOf : ℕ → ℕ → ℕ → Entry
-entryOf k i b =
-    cond (eqb k 0) (Fetch i (record { 0 = b }))
-    (cond (eqb k 1) (WriteBack i (record { 0 = b }))
-    (cond (eqb k 2) (Drop i (record { 0 = b })) (cond (eqb k 3) Complete CompleteByBroadcast)))
-
--- three numbers at a time; fewer than three at the end name no entry
-abbrev pub entriesOf : List ℕ → List Entry
-entriesOf [] = []
-entriesOf (k ∷ []) = []
-entriesOf (k ∷ i ∷ []) = []
-entriesOf (k ∷ i ∷ b ∷ ns) = entryOf k i b ∷ entriesOf ns
-
--- ---- a look: a part of the lent words, by its offset and its length (proofs/Looks, looked-part)
-
-unfoldable pub lookLength : Setup → List ℕ → List ℕ → List ℕ → ℕ → Block → ℕ
-lookLength s blocks counters words i b = length (looked s blocks counters words i b)
-
--- an empty part has offset 0
-unfoldable pub lookOffset : Setup → List ℕ → List ℕ → List ℕ → ℕ → Block → ℕ
-lookOffset s blocks counters words i b = cond (eqb (lookLength s blocks counters words i b) 0) 0 (wordIndex s (slot s i b) 0)

@@ -3,7 +3,8 @@ use denote.Ref.{now}
 use Rattle.protocol.specs.Tables.{tables}
 use Rattle.protocol.specs.Runs.{run as ran}
 use Rattle.protocol.specs.declared.Setup.{Setup}
-use Rattle.numbers.specs.Numbers.{accountOf, requestsOf}
+use Rattle.decoding.specs.Records.{requestsOf}
+use Rattle.numbers.specs.Numbers.{accountOf}
 use borrow.Author.Needs.{needs}
 use Rattle.host.proofs.cuzkelor_run.Statement.{statement}
 use Rattle.host.proofs.cuzkelor_run.Tie as tie

@@ -9,14 +9,15 @@ use Rattle.protocol.specs.declared.Account.{Account}
 use Rattle.steps.specs.Steps.{stage}
 use Rattle.run.specs.Outcomes.{grown, outcome}
 use Rattle.run.proofs.Loop.{Inv, μ, inv-count, inv-room, inv-end}
-use Rattle.numbers.specs.Numbers.{requestsOf}
+use Rattle.decoding.specs.Records.{requestsOf}
 use Rattle.numbers.proofs.Runs.{begins, within, turns, falls}
 use Rattle.numbers.proofs.run.Statement.{statement}
 use Rattle.numbers.proofs.run.Tie as tie
 use Rattle.numbers.proofs.run.Reads as reads
 use Rattle.numbers.proofs.run.Lts as lts
 use Rattle.numbers.proofs.account_of.Reads as account-of-reads
-use Rattle.numbers.proofs.request_at.Reads as request-at-reads
+use Rattle.decoding.proofs.request_at.Reads as request-at-reads
+use Rattle.decoding.proofs.request_count.Reads as request-count-reads
 use Rattle.run.proofs.counted.Reads as counted-reads
 use Rattle.run.proofs.growth.Reads as growth-reads
 use Rattle.steps.proofs.begin.Reads as begin-reads
@@ -34,19 +35,23 @@ abbrev μ-loop : tie.MeasureT-loop
 account-of-requires : tie.Need-account-of-requires Inv-loop μ-loop
 account-of-requires c κs = search needs
 
+request-count-requires : tie.Need-request-count-requires Inv-loop μ-loop
+request-count-requires c κs = search needs
+
 begin-requires : tie.Need-begin-requires Inv-loop μ-loop
 begin-requires c κs = search needs
 
 loop-holds : tie.Need-loop-holds Inv-loop μ-loop
 loop-holds c =
-    let a = c .before .before .before .before .before .before .before .before .before .before .before .before .before .before .before .args in
-    let k = c .before .before .before .before .before .before .before .account-of in
-    (rw (c .begin .ensures) (begins (a .setup) (tables (now (a .blocks)) (now (a .counters)) (now (a .marks)) (now (a .words)) (now (a .memory))) (k .result) (now (a .requests)) (now (a .values)) (k .ensures .1)), refl, refl, refl, refl, refl, refl)
+    let a = c .before .before .before .before .before .before .before .before .before .before .before .before .before .before .before .before .args in
+    let k = c .before .before .before .before .before .before .before .before .account-of in
+    let n = c .before .before .before .before .before .before .before .request-count in
+    (rw (c .begin .ensures) (begins (a .setup) (tables (now (a .blocks)) (now (a .counters)) (now (a .marks)) (now (a .words)) (now (a .memory))) (k .result) (now (a .requests)) (now (a .values)) (k .ensures .1) (n .result) (n .ensures)), refl, refl, refl, refl, refl, refl)
 
 request-at-requires : tie.Need-request-at-requires Inv-loop μ-loop
 request-at-requires c κs =
-    let a = c .before .before .before .before .before .before .before .before .before .before .before .before .before .before .before .before .before .args in
-    let k = c .before .before .before .before .before .before .before .before .before .account-of in
+    let a = c .before .before .before .before .before .before .before .before .before .before .before .before .before .before .before .before .before .before .args in
+    let k = c .before .before .before .before .before .before .before .before .before .before .account-of in
     let l = c .before .loop in
     omega (arith, within (a .setup) (tables (now (a .blocks)) (now (a .counters)) (now (a .marks)) (now (a .words)) (now (a .memory))) (k .result) (now (a .requests)) (now (a .values)) (stage (l .p) (l .blocks) (l .counters) (l .marks) (l .words) (l .memory) (l .values)) (l .inv .0) (c .loop-test .taken))
 
@@ -56,29 +61,29 @@ turn-requires c κs =
 
 loop-less : tie.Need-loop-less Inv-loop μ-loop
 loop-less c =
-    let a = c .before .before .before .before .before .before .before .before .before .before .before .before .before .before .before .before .before .before .before .before .before .before .before .before .before .before .before .before .before .before .before .before .before .before .before .before .before .args in
-    let k = c .before .before .before .before .before .before .before .before .before .before .before .before .before .before .before .before .before .before .before .before .before .before .before .before .before .before .before .before .before .account-of in
+    let a = c .before .before .before .before .before .before .before .before .before .before .before .before .before .before .before .before .before .before .before .before .before .before .before .before .before .before .before .before .before .before .before .before .before .before .before .before .before .before .args in
+    let k = c .before .before .before .before .before .before .before .before .before .before .before .before .before .before .before .before .before .before .before .before .before .before .before .before .before .before .before .before .before .before .account-of in
     let l = c .before .before .before .before .before .before .before .before .before .before .before .before .before .before .before .before .before .before .before .before .before .loop in
     falls (a .setup) (tables (now (a .blocks)) (now (a .counters)) (now (a .marks)) (now (a .words)) (now (a .memory))) (k .result) (now (a .requests)) (now (a .values)) (stage (l .p) (l .blocks) (l .counters) (l .marks) (l .words) (l .memory) (l .values)) (l .inv .0) (c .before .before .before .before .before .before .before .before .before .before .before .before .before .before .before .before .before .before .before .before .loop-test .taken) (c .before .before .before .before .before .before .before .before .before .before .before .before .before .before .before .before .before .before .before .request-at .result) (c .before .before .before .before .before .before .before .before .before .before .before .before .before .before .before .before .before .before .before .request-at .ensures) _ (c .before .before .before .before .before .before .before .before .before .before .before .before .turn .ensures)
 
 loop-again : tie.Need-loop-again Inv-loop μ-loop
 loop-again c =
-    let a = c .before .before .before .before .before .before .before .before .before .before .before .before .before .before .before .before .before .before .before .before .before .before .before .before .before .before .before .before .before .before .before .before .before .before .before .before .before .args in
-    let k = c .before .before .before .before .before .before .before .before .before .before .before .before .before .before .before .before .before .before .before .before .before .before .before .before .before .before .before .before .before .account-of in
+    let a = c .before .before .before .before .before .before .before .before .before .before .before .before .before .before .before .before .before .before .before .before .before .before .before .before .before .before .before .before .before .before .before .before .before .before .before .before .before .before .args in
+    let k = c .before .before .before .before .before .before .before .before .before .before .before .before .before .before .before .before .before .before .before .before .before .before .before .before .before .before .before .before .before .before .account-of in
     let l = c .before .before .before .before .before .before .before .before .before .before .before .before .before .before .before .before .before .before .before .before .before .loop in
     (turns (a .setup) (tables (now (a .blocks)) (now (a .counters)) (now (a .marks)) (now (a .words)) (now (a .memory))) (k .result) (now (a .requests)) (now (a .values)) (stage (l .p) (l .blocks) (l .counters) (l .marks) (l .words) (l .memory) (l .values)) (l .inv .0) (c .before .before .before .before .before .before .before .before .before .before .before .before .before .before .before .before .before .before .before .before .loop-test .taken) (c .before .before .before .before .before .before .before .before .before .before .before .before .before .before .before .before .before .before .before .request-at .result) (c .before .before .before .before .before .before .before .before .before .before .before .before .before .before .before .before .before .before .before .request-at .ensures) _ (c .before .before .before .before .before .before .before .before .before .before .before .before .turn .ensures), search needs, search needs, search needs, search needs, search needs, search needs)
 
 growth-requires : tie.Need-growth-requires Inv-loop μ-loop
 growth-requires c κs =
-    let a = c .before .before .before .before .before .before .before .before .before .before .before .before .before .before .before .before .before .before .args in
-    let k = c .before .before .before .before .before .before .before .before .before .before .account-of in
+    let a = c .before .before .before .before .before .before .before .before .before .before .before .before .before .before .before .before .before .before .before .args in
+    let k = c .before .before .before .before .before .before .before .before .before .before .before .account-of in
     let l = c .before .before .loop in
     inv-count (a .setup) (tables (now (a .blocks)) (now (a .counters)) (now (a .marks)) (now (a .words)) (now (a .memory))) (k .result) (requestsOf (now (a .requests))) (now (a .values)) (stage (l .p) (l .blocks) (l .counters) (l .marks) (l .words) (l .memory) (l .values)) (l .inv .0)
 
 counted-requires : tie.Need-counted-requires Inv-loop μ-loop
 counted-requires c κs =
-    let a = c .before .before .before .before .before .before .before .before .before .before .before .before .before .before .before .before .before .before .before .args in
-    let k = c .before .before .before .before .before .before .before .before .before .before .before .account-of in
+    let a = c .before .before .before .before .before .before .before .before .before .before .before .before .before .before .before .before .before .before .before .before .args in
+    let k = c .before .before .before .before .before .before .before .before .before .before .before .before .account-of in
     let l = c .before .before .before .loop in
     rw (c .growth .ensures) (inv-room (a .setup) (tables (now (a .blocks)) (now (a .counters)) (now (a .marks)) (now (a .words)) (now (a .memory))) (k .result) (requestsOf (now (a .requests))) (now (a .values)) (stage (l .p) (l .blocks) (l .counters) (l .marks) (l .words) (l .memory) (l .values)) (l .inv .0))
 
@@ -102,8 +107,8 @@ same-length-6 c = search needs
 
 returns : tie.Need-returns Inv-loop μ-loop
 returns c =
-    let a = c .before .before .before .before .before .before .before .before .before .before .before .before .before .before .before .before .before .before .before .before .args in
-    let k = c .before .before .before .before .before .before .before .before .before .before .before .before .account-of in
+    let a = c .before .before .before .before .before .before .before .before .before .before .before .before .before .before .before .before .before .before .before .before .before .args in
+    let k = c .before .before .before .before .before .before .before .before .before .before .before .before .before .account-of in
     let l = c .before .before .before .before .loop in
     let T = tables (now (a .blocks)) (now (a .counters)) (now (a .marks)) (now (a .words)) (now (a .memory)) in
     let x = stage (l .p) (l .blocks) (l .counters) (l .marks) (l .words) (l .memory) (l .values) in
@@ -118,6 +123,7 @@ run-spec =
     Inv-loop
     μ-loop
     account-of-requires
+    request-count-requires
     begin-requires
     loop-holds
     request-at-requires

@@ -1,6 +1,6 @@
 use borrow.Author.Needs.{needs}
-use Rattle.numbers.proofs.request_at.Statement.{statement}
-use Rattle.numbers.proofs.request_at.Tie as tie
+use Rattle.decoding.proofs.request_at.Statement.{statement}
+use Rattle.decoding.proofs.request_at.Tie as tie
 
 mul-k : tie.Need-mul-k
 mul-k c = search needs

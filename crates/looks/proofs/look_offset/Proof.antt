@@ -2,9 +2,9 @@ use borrow.Author.Needs.{needs}
 use mathlib.Core.Path.{sym, _∙_}
 use native.Mathlib.Omega.{arith}
 use denote.Ref.{now}
-use Rattle.numbers.proofs.Looks.{offset-none, shows, place-fits, offset-some}
-use Rattle.numbers.proofs.look_offset.Statement.{statement}
-use Rattle.numbers.proofs.look_offset.Tie as tie
+use Rattle.looks.proofs.Looks.{offset-none, shows, place-fits, offset-some}
+use Rattle.looks.proofs.look_offset.Statement.{statement}
+use Rattle.looks.proofs.look_offset.Tie as tie
 
 look-length-requires : tie.Need-look-length-requires
 look-length-requires c κs = search needs

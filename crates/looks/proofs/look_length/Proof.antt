@@ -1,9 +1,9 @@
 use mathlib.Core.Path.{ap}
 use lib.ListN.{length}
-use Rattle.numbers.specs.Numbers.{lookLength}
+use Rattle.looks.specs.Looks.{lookLength}
 use borrow.Author.Needs.{needs}
-use Rattle.numbers.proofs.look_length.Statement.{statement}
-use Rattle.numbers.proofs.look_length.Tie as tie
+use Rattle.looks.proofs.look_length.Statement.{statement}
+use Rattle.looks.proofs.look_length.Tie as tie
 
 look-requires : tie.Need-look-requires
 look-requires c κs = search needs

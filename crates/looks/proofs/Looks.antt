@@ -16,7 +16,7 @@ use Rattle.protocol.proofs.Rows.{row-end}
 use Rattle.tables.specs.Entries.{seen}
 use Rattle.protocol.proofs.Board.{few-line-words}
 use Rattle.tables.proofs.Tests.{Shown, shown as tells}
-use Rattle.numbers.specs.Numbers.{lookLength, lookOffset}
+use Rattle.looks.specs.Looks.{lookLength, lookOffset}
 
 -- as many of a list as its first n are
 first-ones : (n : ℕ) (l : List ℕ) → take n l ≡ take (length (take n l)) l

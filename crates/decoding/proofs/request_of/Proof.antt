@@ -1,9 +1,9 @@
 use mathlib.Core.Path.{_≡_}
 use native.Mathlib.Omega.{arith}
 use borrow.Author.Tests.{eq-eqb, ne-eqb}
-use Rattle.numbers.specs.Numbers.{requestOf}
-use Rattle.numbers.proofs.request_of.Statement.{statement}
-use Rattle.numbers.proofs.request_of.Tie as tie
+use Rattle.decoding.specs.Records.{requestOf}
+use Rattle.decoding.proofs.request_of.Statement.{statement}
+use Rattle.decoding.proofs.request_of.Tie as tie
 
 returns : tie.Need-returns
 unfolding requestOf

@@ -1,7 +1,7 @@
 use borrow.Author.Tests.{eq-eqb, ne-eqb}
-use Rattle.numbers.specs.Numbers.{entryOf}
-use Rattle.numbers.proofs.entry_of.Statement.{statement}
-use Rattle.numbers.proofs.entry_of.Tie as tie
+use Rattle.decoding.specs.Records.{entryOf}
+use Rattle.decoding.proofs.entry_of.Statement.{statement}
+use Rattle.decoding.proofs.entry_of.Tie as tie
 
 returns : tie.Need-returns
 unfolding entryOf

@@ -9,7 +9,7 @@ use lib.ListN.{length, getD}
 use Rattle.protocol.specs.Lists.{at}
 use Rattle.protocol.specs.declared.Request.{Request}
 use Rattle.protocol.specs.declared.Entry.{Entry}
-use Rattle.numbers.specs.Numbers.{requestOf, requestsOf, entryOf, entriesOf}
+use Rattle.decoding.specs.Records.{requestOf, requestsOf, entryOf, entriesOf}
 
 -- ---- four numbers a request
 
