@@ -1,8 +1,8 @@
 // One request, served on the lent tables.
+use evictions::evict;
 use holders::holds;
 use holders::slot;
 use holders::word_of;
-use lines::evict;
 use lines::fetch;
 use protocol::Bill;
 use protocol::Block;
@@ -15,7 +15,7 @@ ghost use Prim.Native.Nat.{_<_};
 ghost use Rattle.protocol.specs.Board.{Fits};
 ghost use Rattle.protocol.specs.Rules.{obtained};
 ghost use Rattle.protocol.specs.Requests.{Valid, value, bill, served};
-ghost use Rattle.lines.specs.Lent.{lent};
+ghost use Rattle.evictions.specs.Lent.{lent};
 ghost use Rattle.engine.specs.Usable.{Usable, obtainBill};
 
 // The value that a request supplies or writes, and its cycles.

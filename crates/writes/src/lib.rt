@@ -14,7 +14,7 @@ ghost use Rattle.protocol.specs.Lists.{at};
 ghost use Rattle.protocol.specs.Board.{Fits, slots, variables};
 ghost use Rattle.protocol.specs.Tables.{tables, Sized};
 ghost use Rattle.protocol.specs.Rules.{writtenAlone, broadcast, charged, written, updateCycles};
-ghost use Rattle.lines.specs.Lent.{lent};
+ghost use Rattle.evictions.specs.Lent.{lent};
 
 // The only holder, at slot k, writes: its word changes and it is marked.
 fn write_alone(

@@ -4,8 +4,8 @@ use mathlib.Core.Path.{ap, _∙_}
 use denote.Ref.{now}
 use Rattle.protocol.specs.Tables.{Tables}
 use Rattle.protocol.specs.Rules.{emptied, evicted}
-use Rattle.lines.proofs.evict.Statement.{statement}
-use Rattle.lines.proofs.evict.Tie as tie
+use Rattle.evictions.proofs.evict.Statement.{statement}
+use Rattle.evictions.proofs.evict.Tie as tie
 
 save-requires : tie.Need-save-requires
 save-requires c κs = search needs

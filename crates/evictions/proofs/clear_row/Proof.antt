@@ -3,8 +3,8 @@ use borrow.Author.Needs.{needs}
 use native.Mathlib.Nat.{add-zero}
 use native.Mathlib.Omega.{arith}
 use Rattle.protocol.specs.Board.{wordIndex}
-use Rattle.lines.proofs.clear_row.Statement.{statement}
-use Rattle.lines.proofs.clear_row.Tie as tie
+use Rattle.evictions.proofs.clear_row.Statement.{statement}
+use Rattle.evictions.proofs.clear_row.Tie as tie
 
 cast-n : tie.Need-cast-n
 cast-n c = search needs

@@ -5,8 +5,8 @@ use denote.Ref.{now}
 use Rattle.protocol.specs.Lists.{at}
 use Rattle.protocol.specs.Tables.{marked}
 use Rattle.protocol.specs.Rules.{saved, saveCycles}
-use Rattle.lines.proofs.save.Statement.{statement}
-use Rattle.lines.proofs.save.Tie as tie
+use Rattle.evictions.proofs.save.Statement.{statement}
+use Rattle.evictions.proofs.save.Tie as tie
 
 mul-if1 : tie.Need-mul-if1
 mul-if1 c = search needs

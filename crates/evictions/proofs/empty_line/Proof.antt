@@ -4,8 +4,8 @@ use native.Mathlib.Omega.{arith}
 use Rattle.protocol.specs.Board.{slots}
 use Rattle.protocol.specs.Rules.{emptied}
 use Rattle.protocol.proofs.Rows.{row-end}
-use Rattle.lines.proofs.empty_line.Statement.{statement}
-use Rattle.lines.proofs.empty_line.Tie as tie
+use Rattle.evictions.proofs.empty_line.Statement.{statement}
+use Rattle.evictions.proofs.empty_line.Tie as tie
 
 mul-blocks : tie.Need-mul-blocks
 mul-blocks c = search needs

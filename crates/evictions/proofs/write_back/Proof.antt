@@ -7,8 +7,8 @@ use Rattle.protocol.specs.Board.{slots}
 use Rattle.protocol.specs.Tables.{lineWords}
 use Rattle.protocol.specs.Rules.{writtenBack}
 use Rattle.protocol.proofs.Rows.{row-end}
-use Rattle.lines.proofs.write_back.Statement.{statement}
-use Rattle.lines.proofs.write_back.Tie as tie
+use Rattle.evictions.proofs.write_back.Statement.{statement}
+use Rattle.evictions.proofs.write_back.Tie as tie
 
 mul-block : tie.Need-mul-block
 mul-block c = search needs
