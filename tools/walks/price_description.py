@@ -1,6 +1,6 @@
-"""The walk of pricer::price: `python3 tools/walks/price_description.py` writes its proof.
+"""The walk of rival_pricer::price: `python3 tools/walks/price_description.py` writes its proof.
 
-It writes crates/pricer/proofs/price/Proof.antt and crates/pricer/proofs/price/Proof/{Begin,Take,Complete}.antt.
+It writes crates/rival_pricer/proofs/price/Proof.antt and crates/rival_pricer/proofs/price/Proof/{Begin,Take,Complete}.antt.
 The repository is the one that this file stands in, or the folder named as the first argument."""
 import os
 import sys
@@ -10,11 +10,11 @@ from call import Callee
 from loop import Loop
 
 ROOT = sys.argv[1] if len(sys.argv) > 1 else os.path.dirname(os.path.dirname(os.path.dirname(os.path.abspath(__file__))))
-HERE, KIT = 'pricer', 'walks'
+HERE, KIT = 'rival_pricer', 'walks'
 
 Setup, Request = (Kind(n, 'protocol') for n in ('Setup', 'Request'))
 Entry, PriceAnswer = (Kind(n, 'protocol', True) for n in ('Entry', 'PriceAnswer'))
-Pricing = Kind('Pricing', 'pricing')
+Pricing = Kind('Pricing', 'rival_pricing')
 usize = Kind('usize')
 
 BUFFERS = ['blocks', 'held', 'marks']
@@ -28,14 +28,14 @@ here = '(stage p %s)' % buffers
 
 
 def stages(*names):
-    return ('pricing', 'Stages', ['Stage', 'stage'] + list(names))
+    return ('rival_pricing', 'Stages', ['Stage', 'stage'] + list(names))
 
 
-begin = Callee(HERE, KIT, 'schedule', 'begin', 'Begin', [('setup', Setup)] + slices + [('entries', usize), ('requests', usize)], Pricing, 'mut',
+begin = Callee(HERE, KIT, 'rival_schedule', 'begin', 'Begin', [('setup', Setup)] + slices + [('entries', usize), ('requests', usize)], Pricing, 'mut',
                'begun setup %s entries requests' % lent, None, [RIVAL_SPEC, stages('begun')], stage)
-take = Callee(HERE, KIT, 'schedule', 'take', 'Take', [('setup', Setup)] + slices + [('p', Pricing), ('entry', Entry)], Pricing, 'mut',
+take = Callee(HERE, KIT, 'rival_schedule', 'take', 'Take', [('setup', Setup)] + slices + [('p', Pricing), ('entry', Entry)], Pricing, 'mut',
               'took setup %s entry' % here, 'Ready setup %s' % here, [stages('Ready', 'took')], stage)
-complete = Callee(HERE, KIT, 'schedule', 'complete', 'Complete', [('setup', Setup)] + slices + [('p', Pricing), ('request', Request)], Pricing, 'mut',
+complete = Callee(HERE, KIT, 'rival_schedule', 'complete', 'Complete', [('setup', Setup)] + slices + [('p', Pricing), ('request', Request)], Pricing, 'mut',
                   'completed setup %s request' % here, 'Due setup %s' % here, [stages('Due', 'completed')], stage)
 
 inv = 'setup %s entries requests' % lent

@@ -14,7 +14,7 @@ ROOT = sys.argv[1] if len(sys.argv) > 1 else os.path.dirname(os.path.dirname(os.
 HERE, KIT = 'run', 'walks'
 
 Setup, Account, Request, RunAnswer = (Kind(n, 'protocol') for n in ('Setup', 'Account', 'Request', 'RunAnswer'))
-Progress = Kind('Progress', 'steps')
+Progress = Kind('Progress', 'run_steps')
 usize = Kind('usize')
 
 TABLES = ['blocks', 'counters', 'marks', 'words', 'memory']
@@ -27,10 +27,10 @@ stage = Stage('Stage', 'stage', 'progress', {n: '.tables .' + n if n in TABLES e
 TABLES_SPEC = ('protocol', 'Tables', ['tables as lent'])
 here = '(stage p %s)' % buffers
 
-begin = Callee(HERE, KIT, 'steps', 'begin', 'Begin', [('setup', Setup)] + slices + [('account', Account), ('count', usize)], Progress, 'shr',
-               'begun setup %s account count values' % lent, None, [TABLES_SPEC, ('steps', 'Steps', ['begun'])])
-turn = Callee(HERE, KIT, 'steps', 'turn', 'Turn', [('setup', Setup)] + slices + [('p', Progress), ('request', Request)], Progress, 'mut',
-              'turned setup %s request' % here, 'Ready setup %s' % here, [('steps', 'Steps', ['Stage', 'stage', 'Ready', 'turned'])], stage)
+begin = Callee(HERE, KIT, 'run_steps', 'begin', 'Begin', [('setup', Setup)] + slices + [('account', Account), ('count', usize)], Progress, 'shr',
+               'begun setup %s account count values' % lent, None, [TABLES_SPEC, ('run_steps', 'Steps', ['begun'])])
+turn = Callee(HERE, KIT, 'run_steps', 'turn', 'Turn', [('setup', Setup)] + slices + [('p', Progress), ('request', Request)], Progress, 'mut',
+              'turned setup %s request' % here, 'Ready setup %s' % here, [('run_steps', 'Steps', ['Stage', 'stage', 'Ready', 'turned'])], stage)
 charge = Charge(KIT, HERE, 'charge', 'Charge', (HERE, 'counted'), Account, Account, 'GrowthFits', 'grown', [(HERE, 'Outcomes', ['grown', 'GrowthFits'])])
 growth = Plain(HERE, HERE, 'growth', 'Growth', ('p', Progress), Account, 'growthOf p', 'p .answer .taken < 2 ^ 32', [(HERE, 'Outcomes', ['growthOf'])])
 
@@ -52,7 +52,7 @@ run = Loop(
     done_is='inv-end %s stopped' % at_turn,
     inv_params=['setup'] + TABLES + ['account', 'requests', 'values'], inv=inv,
     laws=[(HERE, 'Loop', ['no-request', 'Inv', 'μ', 'inv-start', 'inv-turn', 'inv-falls', 'inv-within', 'inv-room', 'inv-count', 'inv-end'])],
-    cites=[TABLES_SPEC, ('protocol', 'Runs', ['run as ran']), ('steps', 'Steps', ['Stage', 'stage', 'begun', 'turned']), (HERE, 'Outcomes', ['grown', 'growthOf', 'outcome'])],
+    cites=[TABLES_SPEC, ('protocol', 'Runs', ['run as ran']), ('run_steps', 'Steps', ['Stage', 'stage', 'begun', 'turned']), (HERE, 'Outcomes', ['grown', 'growthOf', 'outcome'])],
     small=(Account, ['requests', 'fetch', 'write_back', 'update']))
 
 

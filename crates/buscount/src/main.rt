@@ -1,4 +1,4 @@
 // Counts the bus cycles of the din trace on standard input.
 fn main() {
-    report::run();
+    trace_report::run();
 }

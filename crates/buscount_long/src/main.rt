@@ -1,4 +1,4 @@
 // A trace that is cut over five reads.
 fn main() {
-    report::run();
+    trace_report::run();
 }

@@ -1,21 +1,21 @@
 // One request, served on the lent tables.
-use evictions::evict;
-use holders::holds;
-use holders::slot;
-use holders::word_of;
-use lines::fetch;
+use engine_evictions::evict;
+use engine_holders::holds;
+use engine_holders::slot;
+use engine_holders::word_of;
+use engine_lines::fetch;
+use engine_writes::write;
 use protocol::Bill;
 use protocol::Block;
 use protocol::Operation;
 use protocol::Request;
 use protocol::Setup;
-use writes::write;
 ghost use mathlib.Core.Path.{_≡_};
 ghost use Prim.Native.Nat.{_<_};
 ghost use Rattle.protocol.specs.Board.{Fits};
 ghost use Rattle.protocol.specs.Rules.{obtained};
 ghost use Rattle.protocol.specs.Requests.{Valid, value, bill, served};
-ghost use Rattle.evictions.specs.Lent.{lent};
+ghost use Rattle.engine_evictions.specs.Lent.{lent};
 ghost use Rattle.engine.specs.Usable.{Usable, obtainBill};
 
 // The value that a request supplies or writes, and its cycles.

@@ -10,9 +10,9 @@ ghost use Rattle.protocol.specs.Runs.{answered, startRefusal, started, run as r
 ghost use Rattle.protocol.specs.Pricer.{price as priced, priceTables, numberOf, placeOf, costOf};
 ghost use Rattle.run.specs.Outcomes.{outcome};
 ghost use Rattle.trace_lines.specs.Trace.{endedOn};
-ghost use Rattle.decoding.specs.Records.{requestsOf, entriesOf};
-ghost use Rattle.numbers.specs.Numbers.{accountOf};
-ghost use Rattle.looks.specs.Looks.{lookLength, lookOffset};
+ghost use Rattle.host_decoding.specs.Records.{requestsOf, entriesOf};
+ghost use Rattle.host_numbers.specs.Numbers.{accountOf};
+ghost use Rattle.host_looks.specs.Looks.{lookLength, lookOffset};
 ghost use Rattle.host.specs.Host.{setupOf, blockNumbered, reportOf, Told};
 
 // A setup by its four numbers.
@@ -44,7 +44,7 @@ pub extern "C" fn cuzkelor_start(
         × (tables (now (blocks .exit)) (now (counters .exit)) (now (marks .exit)) (now (words .exit)) (now (memory .exit)) ≡ started (setupOf processors lines «block_words» «block_count») (tables (now (blocks .entry)) (now (counters .entry)) (now (marks .entry)) (now (words .entry)) (now (memory .entry)))) ⌝ }
 {
     let setup = setup_of(processors, lines, block_words, block_count);
-    tables::start(setup, blocks, counters, marks, words, memory)
+    engine_tables::start(setup, blocks, counters, marks, words, memory)
 }
 
 // The length of the part of the words that a look at a block shows; 0 where it is not held.
@@ -63,7 +63,7 @@ pub extern "C" fn cuzkelor_look_length(
     ensures { λ r. ⌜ r ≡ lookLength (setupOf processors lines «block_words» «block_count») (now (blocks .entry)) (now (counters .entry)) (now (words .entry)) processor (blockNumbered block) ⌝ }
 {
     let setup = setup_of(processors, lines, block_words, block_count);
-    looks::look_length(setup, processor, Block(block), blocks, counters, words)
+    host_looks::look_length(setup, processor, Block(block), blocks, counters, words)
 }
 
 // Where that part begins.
@@ -82,7 +82,7 @@ pub extern "C" fn cuzkelor_look_offset(
     ensures { λ r. ⌜ r ≡ lookOffset (setupOf processors lines «block_words» «block_count») (now (blocks .entry)) (now (counters .entry)) (now (words .entry)) processor (blockNumbered block) ⌝ }
 {
     let setup = setup_of(processors, lines, block_words, block_count);
-    looks::look_offset(setup, processor, Block(block), blocks, counters, words)
+    host_looks::look_offset(setup, processor, Block(block), blocks, counters, words)
 }
 
 // A run of the requests, four numbers each. The refusal number, or 0.
@@ -118,7 +118,7 @@ pub extern "C" fn cuzkelor_run(
         write_back: *account_write_back,
         update: *account_update,
     };
-    let ran = numbers::run(
+    let ran = host_numbers::run(
         setup,
         blocks,
         counters,
@@ -187,7 +187,7 @@ pub extern "C" fn cuzkelor_price(
         × (rival (now (blocks .exit)) (now (held .exit)) (now (marks .exit)) ≡ priceTables (setupOf processors lines «block_words» «block_count») (rival (now (blocks .entry)) (now (held .entry)) (now (marks .entry))) (requestsOf (now (requests .entry))) (entriesOf (now (entries .entry)))) ⌝ }
 {
     let setup = setup_of(processors, lines, block_words, block_count);
-    let answer = numbers::price(setup, blocks, held, marks, entries, requests);
+    let answer = host_numbers::price(setup, blocks, held, marks, entries, requests);
     *place = place_of(answer);
     *cost = cost_of(answer);
     number_of(answer)

@@ -23,8 +23,8 @@ use Rattle.protocol.specs.declared.Operation.the-variants.{Read}
 use Rattle.protocol.specs.declared.Request.{Request}
 use Rattle.protocol.specs.declared.Account.{Account}
 use Rattle.protocol.proofs.Accounts.{account-path}
-use Rattle.steps.specs.Steps.{Room, begun, Stage, Ready, taken, refused, nextRefusal, turned}
-use Rattle.steps.proofs.Laws.{run-passed, both-going, ready-begun, ready-turned, room-turned}
+use Rattle.run_steps.specs.Steps.{Room, begun, Stage, Ready, taken, refused, nextRefusal, turned}
+use Rattle.run_steps.proofs.Laws.{run-passed, both-going, ready-begun, ready-turned, room-turned}
 use Rattle.run.specs.Outcomes.{grown, GrowthFits, growthOf, outcome}
 
 -- what a list has outside

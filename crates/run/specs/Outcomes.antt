@@ -5,8 +5,8 @@ use Rattle.protocol.specs.Tables.{Tables}
 use Rattle.protocol.specs.Runs.{Outcome}
 use Rattle.protocol.specs.declared.Account.{Account}
 use Rattle.protocol.specs.declared.RunAnswer.{RunAnswer}
-use Rattle.steps.specs.Steps.{Room}
-use Rattle.steps.specs.declared.Progress.{Progress}
+use Rattle.run_steps.specs.Steps.{Room}
+use Rattle.run_steps.specs.declared.Progress.{Progress}
 
 -- the account after what a run adds to it
 abbrev pub grown : Account → Account → Account

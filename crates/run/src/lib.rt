@@ -3,7 +3,7 @@ use protocol::Account;
 use protocol::Request;
 use protocol::RunAnswer;
 use protocol::Setup;
-use steps::Progress;
+use run_steps::Progress;
 ghost use mathlib.Core.Path.{_≡_};
 ghost use Rattle.protocol.specs.Tables.{tables};
 ghost use Rattle.protocol.specs.Runs.{run as ran};
@@ -61,7 +61,7 @@ pub fn run(
     ensures { λ r. ⌜ outcome r (tables (now (blocks .exit)) (now (counters .exit)) (now (marks .exit)) (now (words .exit)) (now (memory .exit))) (now (account .exit)) (now (values .exit))
         ≡ ran setup (tables (now (blocks .entry)) (now (counters .entry)) (now (marks .entry)) (now (words .entry)) (now (memory .entry))) (now (account .entry)) (now (requests .entry)) (now (values .entry)) ⌝ }
 {
-    let mut p = steps::begin(
+    let mut p = run_steps::begin(
         setup,
         &*blocks,
         &*counters,
@@ -73,7 +73,7 @@ pub fn run(
         requests.len(),
     );
     while p.going {
-        p = steps::turn(
+        p = run_steps::turn(
             setup,
             blocks,
             counters,

@@ -9,12 +9,12 @@ use lib.ListN.{length, take, drop, getD, length-drop}
 use lib.Seq.{drop-cons, drop-length, drop-drop, take-all, take-length}
 use lib.Dec.{eqb}
 use borrow.Author.Tests.{not-true, not-false, eq-eqb}
-use Rattle.din.specs.Lines.{isText, leading, behind, parsed}
-use Rattle.din_scan.specs.Automaton.{withBytes, scanParsed}
-use Rattle.din_scan.specs.declared.Line.{Line}
-use Rattle.din.proofs.Leading.{Ends-at, take-leading, drop-leading, leading-short, fails-at}
-use Rattle.din_scan.proofs.Reading.{read-parsed}
-use Rattle.din.specs.declared.Parsed.{Parsed}
+use Rattle.trace_din.specs.Lines.{isText, leading, behind, parsed}
+use Rattle.trace_scan.specs.Automaton.{withBytes, scanParsed}
+use Rattle.trace_scan.specs.declared.Line.{Line}
+use Rattle.trace_din.proofs.Leading.{Ends-at, take-leading, drop-leading, leading-short, fails-at}
+use Rattle.trace_scan.proofs.Reading.{read-parsed}
+use Rattle.trace_din.specs.declared.Parsed.{Parsed}
 use Rattle.protocol.specs.Refusals.{noRefusal}
 use Rattle.protocol.specs.Runs.{State}
 use Rattle.trace_count.specs.Counting.{Stage, stateOf, goingOn, judged, Ready}

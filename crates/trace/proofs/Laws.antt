@@ -13,8 +13,8 @@ use Rattle.protocol.specs.Accounts.{freshAccount}
 use Rattle.protocol.specs.Runs.{startRefusal, started}
 use Rattle.protocol.proofs.Laws.{choice, at-zeros}
 use Rattle.protocol.proofs.Lengths.{sized-fresh}
-use Rattle.din_scan.specs.Automaton.{scanParsed}
-use Rattle.din.specs.declared.Parsed.{Parsed}
+use Rattle.trace_scan.specs.Automaton.{scanParsed}
+use Rattle.trace_din.specs.declared.Parsed.{Parsed}
 use Rattle.engine.specs.Usable.{Usable}
 use Rattle.trace_lines.specs.Trace.{traceSetup, ended, endedOn}
 use Rattle.trace_lines.specs.declared.Report.{Report}

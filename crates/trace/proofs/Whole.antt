@@ -11,11 +11,11 @@ use Rattle.protocol.specs.Tables.{fresh}
 use Rattle.protocol.specs.Runs.{State}
 use Rattle.competitive.specs.Claims.{opening}
 use Rattle.protocol.specs.Accounts.{freshAccount}
-use Rattle.din.specs.Lines.{ahead, linesOf, parsed}
-use Rattle.din_scan.specs.Automaton.{newLine, withBytes}
-use Rattle.din.specs.declared.Parsed.{Parsed}
-use Rattle.din.specs.declared.Parsed.the-variants.{Malformed, Labelled}
-use Rattle.din_scan.proofs.Reading.{read-parsed, read-more, width-some}
+use Rattle.trace_din.specs.Lines.{ahead, linesOf, parsed}
+use Rattle.trace_scan.specs.Automaton.{newLine, withBytes}
+use Rattle.trace_din.specs.declared.Parsed.{Parsed}
+use Rattle.trace_din.specs.declared.Parsed.the-variants.{Malformed, Labelled}
+use Rattle.trace_scan.proofs.Reading.{read-parsed, read-more, width-some}
 use Rattle.trace_lines.specs.Trace.{traceSetup, lineRefusal, after, afterLine, stopped, traced, ended}
 use Rattle.trace_count.specs.Counting.{Stage, freshCount, goingOn, refusedBy, judged, reported}
 use Rattle.trace.specs.Feeding.{withinLine, lineEnded, stepped, fed, closed, finished}

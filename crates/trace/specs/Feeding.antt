@@ -6,7 +6,7 @@ use lib.Dec.{eqb}
 use Rattle.protocol.specs.Refusals.{noRefusal}
 use Rattle.protocol.specs.Tables.{tables}
 use Rattle.protocol.specs.declared.Account.{Account}
-use Rattle.din_scan.specs.Automaton.{newLine, withByte, withBytes, scanParsed}
+use Rattle.trace_scan.specs.Automaton.{newLine, withByte, withBytes, scanParsed}
 use Rattle.trace_lines.specs.Trace.{Ended}
 use Rattle.trace_lines.specs.declared.Report.{Report}
 use Rattle.trace_count.specs.Counting.{Stage, stateOf, judged, reported}

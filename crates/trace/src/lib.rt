@@ -1,10 +1,10 @@
 // A din trace counted over lent tables, in chunks of any size. Only a few numbers are kept between two chunks.
-use din_scan::Line;
 use protocol::Account;
 use trace_count::Count;
 use trace_count::judge;
 use trace_lines::Report;
 use trace_lines::trace_setup;
+use trace_scan::Line;
 ghost use mathlib.Core.Path.{_≡_};
 ghost use Prim.Native.Nat.{_≤_};
 ghost use lib.ListN.{length, drop};
@@ -45,7 +45,7 @@ fn feed_lines(
     let mut i = from;
     while i < bytes.len() {
         let rest = &bytes[i..];
-        let first = din::first_line(rest);
+        let first = trace_din::first_line(rest);
         let end = first.end;
         if end >= rest.len() {
             break;
@@ -80,7 +80,7 @@ pub fn feed(
     }
     let account = count.account;
     let before = count.line;
-    let end = din::line_end(bytes, 0);
+    let end = trace_din::line_end(bytes, 0);
     let line = before.bytes(&bytes[..end]);
     if end >= bytes.len() {
         return Count {
@@ -174,7 +174,7 @@ pub fn count_trace(
     ensures { λ r. ⌜ reporting r (now (blocks .exit)) (now (counters .exit)) (now (marks .exit)) (now (words .exit)) (now (memory .exit))
         ≡ endedOn (tables (now (blocks .entry)) (now (counters .entry)) (now (marks .entry)) (now (words .entry)) (now (memory .entry))) (now (bytes .entry)) ⌝ }
 {
-    let started = tables::start(trace_setup(), blocks, counters, marks, words, memory);
+    let started = engine_tables::start(trace_setup(), blocks, counters, marks, words, memory);
     if started != protocol::NO_REFUSAL {
         return Report {
             account: Account {

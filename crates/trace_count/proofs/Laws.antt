@@ -16,10 +16,10 @@ use Rattle.protocol.specs.declared.Bill.{Bill}
 use Rattle.protocol.specs.declared.Account.{Account}
 use Rattle.protocol.proofs.Laws.{choice, chosen-zero}
 use Rattle.trace_lines.proofs.Laws.{trace-fits}
-use Rattle.din_scan.specs.Automaton.{newLine}
-use Rattle.din_scan.specs.declared.Line.{Line}
-use Rattle.din.specs.declared.Parsed.{Parsed}
-use Rattle.din.specs.declared.Parsed.the-variants.{Malformed, Labelled}
+use Rattle.trace_scan.specs.Automaton.{newLine}
+use Rattle.trace_scan.specs.declared.Line.{Line}
+use Rattle.trace_din.specs.declared.Parsed.{Parsed}
+use Rattle.trace_din.specs.declared.Parsed.the-variants.{Malformed, Labelled}
 use Rattle.protocol.proofs.Requests.{request-passed, bill-small}
 use Rattle.engine.proofs.Usable.{usable-served}
 use Rattle.trace_lines.specs.Trace.{traceSetup, requestAt, lineRefusal, after, afterLine}

@@ -10,8 +10,8 @@ use Rattle.protocol.specs.Accounts.{freshAccount}
 use Rattle.protocol.specs.Runs.{State}
 use Rattle.protocol.specs.declared.Account.{Account}
 use Rattle.protocol.specs.declared.Bill.{Bill}
-use Rattle.din_scan.specs.Automaton.{newLine}
-use Rattle.din.specs.declared.Parsed.{Parsed}
+use Rattle.trace_scan.specs.Automaton.{newLine}
+use Rattle.trace_din.specs.declared.Parsed.{Parsed}
 use Rattle.engine.specs.Usable.{Usable}
 use Rattle.trace_lines.specs.Trace.{traceSetup, lineRefusal, afterLine}
 use Rattle.trace_lines.specs.declared.Report.{Report}

@@ -1,12 +1,12 @@
 // What a trace has come to so far, and its next line judged over the lent tables.
-use din::Parsed;
-use din_scan::Line;
 use protocol::Account;
 use protocol::Bill;
+use trace_din::Parsed;
 use trace_lines::Report;
 use trace_lines::line_refusal;
 use trace_lines::request_at;
 use trace_lines::trace_setup;
+use trace_scan::Line;
 ghost use mathlib.Core.Path.{_≡_};
 ghost use Prim.Native.Nat.{_+_};
 ghost use Rattle.protocol.specs.Tables.{tables};

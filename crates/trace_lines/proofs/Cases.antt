@@ -6,7 +6,7 @@ use Rattle.protocol.specs.Board.{fetchPrice, writeBackPrice, blockOf, offsetOf,
 use Rattle.protocol.specs.Tables.{lineWords, memoryWords, fresh, holdsAt, holds, marked}
 use Rattle.protocol.specs.Rules.{writtenBack, emptied, filled, saved, saveCycles, evicted, owner, released, fetched, obtained, fetchCycles, writeBackCycles, payer, writtenAlone, broadcast, charged, written, updateCycles}
 use Rattle.protocol.specs.Requests.{isWrite, variableOf, newValue, target, served, value, bill, requestRefusal}
-use Rattle.din.specs.Lines.{isDigit, isBlank, isGap, hexValue, isHex, addressed, separated, parsed}
+use Rattle.trace_din.specs.Lines.{isDigit, isBlank, isGap, hexValue, isHex, addressed, separated, parsed}
 use Rattle.trace_lines.specs.Trace.{traceSetup, processorAt, variableAt, requestAt, lineRefusal, after, afterLine, ended}
 use Rattle.trace_lines.specs.Cases.{everyRow, rows}
 

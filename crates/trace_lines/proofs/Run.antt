@@ -22,9 +22,9 @@ use Rattle.protocol.specs.declared.Request.{Request}
 use Rattle.protocol.specs.declared.Entry.{Entry}
 use Rattle.protocol.proofs.Lengths.{sized-fresh}
 use Rattle.protocol.proofs.Checked.{sized-passes}
-use Rattle.din.specs.Lines.{linesOf, parsed}
-use Rattle.din.specs.declared.Parsed.{Parsed}
-use Rattle.din.specs.declared.Parsed.the-variants.{Malformed, Labelled}
+use Rattle.trace_din.specs.Lines.{linesOf, parsed}
+use Rattle.trace_din.specs.declared.Parsed.{Parsed}
+use Rattle.trace_din.specs.declared.Parsed.the-variants.{Malformed, Labelled}
 use Rattle.trace_lines.specs.Trace.{traceSetup, requestAt, lineRefusal, after, afterLine, Ended, stopped, traced, ended, report, formRefusal, lineRequests, requestsFrom, requestsOf, formRefusalFrom, formRefusalOf}
 
 -- what a trace and a walk of its requests have in common; x is the trace's refusal by 6 or 7

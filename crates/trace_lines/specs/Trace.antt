@@ -13,9 +13,9 @@ use Rattle.protocol.specs.declared.Setup.{Setup}
 use Rattle.protocol.specs.declared.Variable.{Variable}
 use Rattle.protocol.specs.declared.Request.{Request}
 use Rattle.protocol.specs.declared.Operation.the-variants.{Read, Write}
-use Rattle.din.specs.Lines.{linesOf, parsed}
-use Rattle.din.specs.declared.Parsed.{Parsed}
-use Rattle.din.specs.declared.Parsed.the-variants.{Malformed, Labelled}
+use Rattle.trace_din.specs.Lines.{linesOf, parsed}
+use Rattle.trace_din.specs.declared.Parsed.{Parsed}
+use Rattle.trace_din.specs.declared.Parsed.the-variants.{Malformed, Labelled}
 use Rattle.trace_lines.specs.declared.Report.{Report}
 
 -- "Its setup is N 4, L 8, p 4, M 64."

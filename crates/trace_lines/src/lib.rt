@@ -1,10 +1,10 @@
 // The request of a line of a trace, and what refuses the line.
-use din::Parsed;
 use protocol::Account;
 use protocol::Operation;
 use protocol::Request;
 use protocol::Setup;
 use protocol::Variable;
+use trace_din::Parsed;
 ghost use mathlib.Core.Path.{_≡_};
 ghost use Prim.Native.Nat.{ℕ};
 ghost use Rattle.trace_lines.specs.Trace.{traceSetup, processorAt, variableAt, requestAt, lineRefusal};

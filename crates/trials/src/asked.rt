@@ -11,7 +11,7 @@ use crate::cells::sum;
 use crate::lent;
 use crate::setups;
 use crate::state;
-use numbers::Ran;
+use host_numbers::Ran;
 use protocol::Account;
 use protocol::Block;
 use protocol::PriceAnswer;
@@ -124,7 +124,7 @@ fn start(cells: &mut Cells, setup: Setup) -> u32 {
     let c = lend_table(view, lent::MARKS_TABLE, &mut marks);
     let d = lend_table(view, lent::WORDS_TABLE, &mut words);
     let e = lend_table(view, lent::MEMORY_TABLE, &mut memory);
-    let refusal = tables::start(
+    let refusal = engine_tables::start(
         setup,
         &mut blocks[..a],
         &mut counters[..b],
@@ -157,7 +157,7 @@ fn run(cells: &mut Cells, setup: Setup, account: Account, n: u32) -> Ran {
     let e = lend_table(view, lent::MEMORY_TABLE, &mut memory);
     let f = lend_table(view, lent::VALUES_TABLE, &mut values);
     let g = lend(view, REQUESTS, n, &mut requests);
-    let ran = numbers::run(
+    let ran = host_numbers::run(
         setup,
         &mut blocks[..a],
         &mut counters[..b],
@@ -190,7 +190,7 @@ fn price(cells: &mut Cells, setup: Setup, m: u32, n: u32) -> PriceAnswer {
     let c = lend_table(view, lent::MARKS_TABLE, &mut marks);
     let d = lend(view, ENTRIES, m, &mut entries);
     let e = lend(view, REQUESTS, n, &mut requests);
-    let answer = numbers::price(
+    let answer = host_numbers::price(
         setup,
         &mut blocks[..a],
         &mut held[..b],
@@ -330,7 +330,7 @@ pub(crate) fn look(cells: &Cells, setup: Setup, i: u32, block: u32) -> Shown {
     let a = lend_table(cells, lent::NUMBERS_TABLE, &mut blocks);
     let b = lend_table(cells, lent::COUNTERS_TABLE, &mut counters);
     let c = lend_table(cells, lent::WORDS_TABLE, &mut words);
-    let shown = tables::look(
+    let shown = engine_tables::look(
         setup,
         i,
         Block(block),

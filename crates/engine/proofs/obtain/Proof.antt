@@ -9,24 +9,12 @@ use Rattle.engine.specs.Usable.{obtainBill}
 use Rattle.engine.proofs.obtain.Statement.{statement}
 use Rattle.engine.proofs.obtain.Tie as tie
 
-holds-requires : tie.Need-holds-requires
-holds-requires c κs = search needs
-
-same-length : tie.Need-same-length
-same-length c = search needs
-
-same-length-2 : tie.Need-same-length-2
-same-length-2 c = search needs
-
 returns : tie.Need-returns
 unfolding obtained obtainBill fetchCycles writeBackCycles
 returns c =
     let start = c .before .before .before .before .before .before .before .before .before in
     let a = start .args in
     let h = sym (c .before .holds .ensures (now (a .marks)) (now (a .words)) (now (a .memory))) ∙ c .if1 .taken in (rw h, rw h)
-
-slot-requires : tie.Need-slot-requires
-slot-requires c κs = search needs
 
 evict-requires : tie.Need-evict-requires
 evict-requires c κs =
@@ -42,24 +30,6 @@ fetch-requires c κs =
     let a = start .args in
     let t = tables (now (a .blocks)) (now (a .counters)) (now (a .marks)) (now (a .words)) (now (a .memory)) in
     (start .pre .0, (slot′ .ensures .within, (start .pre .1 .1 .0, rw (evict′ .ensures .1) (sized-evicted (a .setup) t (start .pre .1 .1 .1 .lengths) (slot′ .result)))))
-
-fetch-price-requires : tie.Need-fetch-price-requires
-fetch-price-requires c κs = search needs
-
-same-length-3 : tie.Need-same-length-3
-same-length-3 c = search needs
-
-same-length-4 : tie.Need-same-length-4
-same-length-4 c = search needs
-
-same-length-5 : tie.Need-same-length-5
-same-length-5 c = search needs
-
-same-length-6 : tie.Need-same-length-6
-same-length-6 c = search needs
-
-same-length-7 : tie.Need-same-length-7
-same-length-7 c = search needs
 
 returns-2 : tie.Need-returns-2
 unfolding obtained obtainBill fetchCycles writeBackCycles
@@ -80,17 +50,17 @@ pub obtain-spec : {M : Type 1} → statement M
 obtain-spec =
     tie.close
     (tie.spec
-    holds-requires
-    same-length
-    same-length-2
+    (λ c κs. search needs)
+    (λ c. search needs)
+    (λ c. search needs)
     returns
-    slot-requires
+    (λ c κs. search needs)
     evict-requires
     fetch-requires
-    fetch-price-requires
-    same-length-3
-    same-length-4
-    same-length-5
-    same-length-6
-    same-length-7
+    (λ c κs. search needs)
+    (λ c. search needs)
+    (λ c. search needs)
+    (λ c. search needs)
+    (λ c. search needs)
+    (λ c. search needs)
     returns-2)

@@ -11,15 +11,6 @@ use Rattle.engine.specs.Usable.{obtainBill}
 use Rattle.engine.proofs.serve.Statement.{statement}
 use Rattle.engine.proofs.serve.Tie as tie
 
-variable-requires : tie.Need-variable-requires
-variable-requires c κs = search needs
-
-block-of-requires : tie.Need-block-of-requires
-block-of-requires c κs = search needs
-
-offset-of-requires : tie.Need-offset-of-requires
-offset-of-requires c κs = search needs
-
 obtain-requires : tie.Need-obtain-requires
 obtain-requires c κs =
     let start = c .before .before .before .before .before .before .before .before .before .before .before .before .before in
@@ -31,9 +22,6 @@ obtain-requires c κs =
         (rw (block-of′ .ensures) (block-lt (start .args .setup) (start .pre .0) (variable′ .result) (rw (variable′ .ensures) (start .pre .1 .0 .variable))), start .pre .1 .1),
       ),
     )
-
-enum-told : tie.Need-enum-told
-enum-told c = search needs
 
 slot-requires : tie.Need-slot-requires
 slot-requires c κs =
@@ -50,9 +38,6 @@ word-of-requires c κs =
     rw (obtain′ .kept .1 .1 .1 .1 .1 .1 .0 ∙ start .pre .1 .1 .lengths .words)
     (wordIndex-lt (a .setup) (start .pre .0) (c .before .slot .result) (slots (a .setup)) (offset-of′ .result) (c .before .slot .ensures .within)
     (rw (offset-of′ .ensures) (offset-lt (a .setup) (start .pre .0) (variable′ .result))))
-
-enum-known-operation : tie.Need-enum-known-operation
-enum-known-operation c = search needs
 
 write-requires : tie.Need-write-requires
 write-requires c κs =
@@ -76,21 +61,6 @@ write-requires c κs =
       ),
     )
 
-same-length : tie.Need-same-length
-same-length c = search needs
-
-same-length-2 : tie.Need-same-length-2
-same-length-2 c = search needs
-
-same-length-3 : tie.Need-same-length-3
-same-length-3 c = search needs
-
-same-length-4 : tie.Need-same-length-4
-same-length-4 c = search needs
-
-same-length-5 : tie.Need-same-length-5
-same-length-5 c = search needs
-
 returns : tie.Need-returns
 unfolding value bill served isWrite target obtainBill
 returns c =
@@ -107,21 +77,6 @@ returns c =
       rw (← v, ← b, e) (obtain′ .ensures .0),
       rw (← v, ← b, e) (obtain′ .ensures .1),
     )
-
-same-length-6 : tie.Need-same-length-6
-same-length-6 c = search needs
-
-same-length-7 : tie.Need-same-length-7
-same-length-7 c = search needs
-
-same-length-8 : tie.Need-same-length-8
-same-length-8 c = search needs
-
-same-length-9 : tie.Need-same-length-9
-same-length-9 c = search needs
-
-same-length-10 : tie.Need-same-length-10
-same-length-10 c = search needs
 
 returns-2 : tie.Need-returns-2
 unfolding value bill served isWrite newValue target obtainBill
@@ -144,24 +99,24 @@ pub serve-spec : {M : Type 1} → statement M
 serve-spec =
     tie.close
     (tie.spec
-    variable-requires
-    block-of-requires
-    offset-of-requires
+    (λ c κs. search needs)
+    (λ c κs. search needs)
+    (λ c κs. search needs)
     obtain-requires
-    enum-told
+    (λ c. search needs)
     slot-requires
     word-of-requires
-    enum-known-operation
+    (λ c. search needs)
     write-requires
-    same-length
-    same-length-2
-    same-length-3
-    same-length-4
-    same-length-5
+    (λ c. search needs)
+    (λ c. search needs)
+    (λ c. search needs)
+    (λ c. search needs)
+    (λ c. search needs)
     returns
-    same-length-6
-    same-length-7
-    same-length-8
-    same-length-9
-    same-length-10
+    (λ c. search needs)
+    (λ c. search needs)
+    (λ c. search needs)
+    (λ c. search needs)
+    (λ c. search needs)
     returns-2)

@@ -2,17 +2,5 @@ use borrow.Author.Needs.{needs}
 use Rattle.host.proofs.cost_of.Statement.{statement}
 use Rattle.host.proofs.cost_of.Tie as tie
 
-enum-known-answer : tie.Need-enum-known-answer
-enum-known-answer c = search needs
-
-enum-told : tie.Need-enum-told
-enum-told c = search needs
-
-returns : tie.Need-returns
-returns c = search needs
-
-returns-2 : tie.Need-returns-2
-returns-2 c = search needs
-
 pub cost-of-spec : {M : Type 1} → statement M
-cost-of-spec = tie.close (tie.spec enum-known-answer enum-told returns returns-2)
+cost-of-spec = tie.close (tie.spec (λ c. search needs) (λ c. search needs) (λ c. search needs) (λ c. search needs))

@@ -2,14 +2,8 @@ use borrow.Author.Needs.{needs}
 use Rattle.host.proofs.cuzkelor_look_length.Statement.{statement}
 use Rattle.host.proofs.cuzkelor_look_length.Tie as tie
 
-setup-of-requires : tie.Need-setup-of-requires
-setup-of-requires c κs = search needs
-
-look-length-requires : tie.Need-look-length-requires
-look-length-requires c κs = search needs
-
 returns : tie.Need-returns
 returns c = rw (c .before .setup-of .ensures) at (c .look-length .ensures)
 
 pub cuzkelor-look-length-spec : {M : Type 1} → statement M
-cuzkelor-look-length-spec = tie.close (tie.spec setup-of-requires look-length-requires returns)
+cuzkelor-look-length-spec = tie.close (tie.spec (λ c κs. search needs) (λ c κs. search needs) returns)

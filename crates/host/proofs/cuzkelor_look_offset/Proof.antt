@@ -2,14 +2,8 @@ use borrow.Author.Needs.{needs}
 use Rattle.host.proofs.cuzkelor_look_offset.Statement.{statement}
 use Rattle.host.proofs.cuzkelor_look_offset.Tie as tie
 
-setup-of-requires : tie.Need-setup-of-requires
-setup-of-requires c κs = search needs
-
-look-offset-requires : tie.Need-look-offset-requires
-look-offset-requires c κs = search needs
-
 returns : tie.Need-returns
 returns c = rw (c .before .setup-of .ensures) at (c .look-offset .ensures)
 
 pub cuzkelor-look-offset-spec : {M : Type 1} → statement M
-cuzkelor-look-offset-spec = tie.close (tie.spec setup-of-requires look-offset-requires returns)
+cuzkelor-look-offset-spec = tie.close (tie.spec (λ c κs. search needs) (λ c κs. search needs) returns)

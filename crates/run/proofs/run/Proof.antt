@@ -58,25 +58,25 @@ use Rattle.protocol.proofs.Account.Laws as Account-l
 use Rattle.protocol.specs.declared.Request.{Request}
 use Rattle.protocol.proofs.Request as Request-t
 use Rattle.protocol.proofs.Request.Laws as Request-l
-use Rattle.steps.proofs.Progress as Progress-t
-use Rattle.steps.proofs.Progress.Laws as Progress-l
+use Rattle.run_steps.proofs.Progress as Progress-t
+use Rattle.run_steps.proofs.Progress.Laws as Progress-l
 use Rattle.protocol.proofs.RunAnswer as RunAnswer-t
 use Rattle.protocol.proofs.RunAnswer.Laws as RunAnswer-l
 use Rattle.protocol.specs.Tables.{tables as lent}
 use Rattle.protocol.specs.Runs.{run as ran}
-use Rattle.steps.specs.Steps.{Stage, stage, begun, turned}
+use Rattle.run_steps.specs.Steps.{Stage, stage, begun, turned}
 use Rattle.run.specs.Outcomes.{grown, growthOf, outcome}
 use Rattle.run.proofs.Loop.{no-request, Inv, μ, inv-start, inv-turn, inv-falls, inv-within, inv-room, inv-count, inv-end}
 use Rattle.walks.proofs.Frame.{dieAll, blocks as blocks-of, slots, alloc-all, leave-all}
 use Rattle.walks.proofs.Opening.{at-list, at-value, slice-at, Cells, Opened, RefOpened, slice-opens, slice-closes, ref-opens, ref-closes}
 use Rattle.run.proofs.run.Proof.Begin as Begin
-use Rattle.steps.proofs.begin.Symbol as begin-def
-use Rattle.steps.proofs.begin.Symbol.{name as #steps·begin}
-use Rattle.steps.proofs.begin.Met as begin-thm
+use Rattle.run_steps.proofs.begin.Symbol as begin-def
+use Rattle.run_steps.proofs.begin.Symbol.{name as #run_steps·begin}
+use Rattle.run_steps.proofs.begin.Met as begin-thm
 use Rattle.run.proofs.run.Proof.Turn as Turn
-use Rattle.steps.proofs.turn.Symbol as turn-def
-use Rattle.steps.proofs.turn.Symbol.{name as #steps·turn}
-use Rattle.steps.proofs.turn.Met as turn-thm
+use Rattle.run_steps.proofs.turn.Symbol as turn-def
+use Rattle.run_steps.proofs.turn.Symbol.{name as #run_steps·turn}
+use Rattle.run_steps.proofs.turn.Met as turn-thm
 use Rattle.run.proofs.run.Proof.Growth as Growth
 use Rattle.run.proofs.growth.Symbol as growth-def
 use Rattle.run.proofs.growth.Symbol.{name as #run·growth}
@@ -186,7 +186,7 @@ module _ {M : Type 1} (𝓤 : URA M) (H : Heap 𝓤) (A : Atoms 𝓤) (W : Given
         at-once ! $ suffices ! _ (ends-at 𝓤 H A run.ended stayed (run.clauses 𝓤 H A mem run″) W bound (LL.val RunAnswer-t.the-type RunAnswer-l.the-laws (s .progress .answer)) (s .progress .answer) (tt, ((s .tables .blocks), ((s .tables .counters), ((s .tables .marks), ((s .tables .words), ((s .tables .memory), ((grown account (growthOf (s .progress))), (tt, ((s .values), tt))))))))) (tt, (blocks-len, (counters-len, (marks-len, (words-len, (memory-len, (tt, (tt, (values-len, tt)))))))))) $ says ! done-so $ nothing ! $ move ! (12 ∷ 10 ∷ 8 ∷ 6 ∷ 4 ∷ 16 ∷ 13 ∷ 2 ∷ 0 ∷ []) $ group ! 9 $ frame ! $
         nothing ! $ move ! (1 ∷ 0 ∷ []) $ fjoin ! $ move ! (6 ∷ 0 ∷ []) $ fjoin ! $ move ! (6 ∷ 0 ∷ []) $ fjoin ! $ move ! (1 ∷ 0 ∷ []) $ fjoin ! $ move ! (1 ∷ 0 ∷ []) $ fjoin ! $ move ! (1 ∷ 0 ∷ []) $ fjoin ! $ move ! (1 ∷ 0 ∷ []) $ fjoin ! $ move ! (1 ∷ 0 ∷ []) $ fjoin ! $ owned ! Setup-t.the-row (Is Setup-t.the-row) (LL.makes Setup-t.the-type Setup-l.the-plain 𝓤 H A) setup _ setup-is $ fjoin ! $ frame ! $ owned ! RunAnswer-t.the-row (Is RunAnswer-t.the-row) (LL.makes RunAnswer-t.the-type RunAnswer-l.the-plain 𝓤 H A) (s .progress .answer) _ end-is $ done !
 
-  module _ (𝓣 : Tables 𝓤 H) (known-begin : Triple 𝓤 (𝓣 .C #steps·begin) (Begin.Called 𝓤 H A mem run″)) (known-turn : Triple 𝓤 (𝓣 .C #steps·turn) (Turn.Called 𝓤 H A mem run″)) (known-growth : Triple 𝓤 (𝓣 .C #run·growth) (Growth.Called 𝓤 H A mem run″)) (known-charge : Triple 𝓤 (𝓣 .C #run·charge) (Charge.Called 𝓤 H A mem run″)) where
+  module _ (𝓣 : Tables 𝓤 H) (known-begin : Triple 𝓤 (𝓣 .C #run_steps·begin) (Begin.Called 𝓤 H A mem run″)) (known-turn : Triple 𝓤 (𝓣 .C #run_steps·turn) (Turn.Called 𝓤 H A mem run″)) (known-growth : Triple 𝓤 (𝓣 .C #run·growth) (Growth.Called 𝓤 H A mem run″)) (known-charge : Triple 𝓤 (𝓣 .C #run·charge) (Charge.Called 𝓤 H A mem run″)) where
     abbrev C : Calls 𝓤 H
     C = 𝓣 .C
 
@@ -325,7 +325,7 @@ module _ {M : Type 1} (𝓤 : URA M) (H : Heap 𝓤) (A : Atoms 𝓤) (W : Given
         first ! $ into-block ! $ loops ! 𝓣 (≺ setup blocks counters marks words memory account requests values) (wf setup blocks counters marks words memory account requests values) (I l₀ l₁ l₂ l₃ l₄ l₅ l₆ l₇ l₈ l₉ l₁₀ l₁₁ l₁₂ l₁₃ l₁₄ l₁₅ l₁₆ l₁₇ l₁₈ l₁₉ l₂₀ l₂₁ l₂₂ l₂₃ l₂₄ l₂₅ l₂₆ l₂₇ l₂₈ l₂₉ l₃₀ l₃₁ l₃₂ l₃₃ l₃₄ l₃₅ l₃₆ l₃₇ l₃₈ l₃₉ l₄₀ l₄₁ l₄₂) (λ x. turn-at l₀ l₁ l₂ l₃ l₄ l₅ l₆ l₇ l₈ l₉ l₁₀ l₁₁ l₁₂ l₁₃ l₁₄ l₁₅ l₁₆ l₁₇ l₁₈ l₁₉ l₂₀ l₂₁ l₂₂ l₂₃ l₂₄ l₂₅ l₂₆ l₂₇ l₂₈ l₂₉ l₃₀ l₃₁ l₃₂ l₃₃ l₃₄ l₃₅ l₃₆ l₃₇ l₃₈ l₃₉ l₄₀ l₄₁ l₄₂ account-is x (x .at .progress .going) refl)
         (record { at = (stage (begun setup (lent blocks counters marks words memory) account (length requests) values) blocks counters marks words memory values); inv = inv-start setup (lent blocks counters marks words memory) account requests values (small-fields account-is); is = told .is; blocks-len = refl; counters-len = refl; marks-len = refl; words-len = refl; memory-len = refl; values-len = refl }))))))
 
-module _ {M : Type 1} (𝓤 : URA M) (H : Heap 𝓤) (A : Atoms 𝓤) (W : Given 𝓤 H A) (mem : Memory → SProp 𝓤) (run″ : Routine → Fun 𝓤) (𝓣 : Tables 𝓤 H) (known-begin : Triple 𝓤 (𝓣 .C #steps·begin) (Begin.Called 𝓤 H A mem run″)) (known-turn : Triple 𝓤 (𝓣 .C #steps·turn) (Turn.Called 𝓤 H A mem run″)) (known-growth : Triple 𝓤 (𝓣 .C #run·growth) (Growth.Called 𝓤 H A mem run″)) (known-charge : Triple 𝓤 (𝓣 .C #run·charge) (Charge.Called 𝓤 H A mem run″)) where
+module _ {M : Type 1} (𝓤 : URA M) (H : Heap 𝓤) (A : Atoms 𝓤) (W : Given 𝓤 H A) (mem : Memory → SProp 𝓤) (run″ : Routine → Fun 𝓤) (𝓣 : Tables 𝓤 H) (known-begin : Triple 𝓤 (𝓣 .C #run_steps·begin) (Begin.Called 𝓤 H A mem run″)) (known-turn : Triple 𝓤 (𝓣 .C #run_steps·turn) (Turn.Called 𝓤 H A mem run″)) (known-growth : Triple 𝓤 (𝓣 .C #run·growth) (Growth.Called 𝓤 H A mem run″)) (known-charge : Triple 𝓤 (𝓣 .C #run·charge) (Charge.Called 𝓤 H A mem run″)) where
   run-walks : Walks 𝓤 H A run.ended stayed (WpFn 𝓤 H (𝓣 .C) (𝓣 .Λ) code.function) (run.clauses 𝓤 H A mem run″)
   run-walks = walked 𝓤 H A run.ended stayed (run.clauses 𝓤 H A mem run″) (WpFn 𝓤 H (𝓣 .C) (𝓣 .Λ) code.function)
       (λ κs. ((LL.vals Setup-t.the-type Setup-l.the-laws), (slice-vals, (slice-vals, (slice-vals, (slice-vals, (slice-vals, (ptr-vals, (slice-vals, (slice-vals, tt))))))))))
@@ -342,7 +342,7 @@ run-spec 𝓤 H 𝓜 𝓖 𝓡 =
     entered 𝓤 H (tripleOf 𝓤 H (𝓖 .A) run.signature (run.spec 𝓤 H (𝓖 .A) (𝓜 .mem) (𝓡 .run)))
     (tables 𝓤 H 𝓜 𝓡 code.env .C) (tables 𝓤 H 𝓜 𝓡 code.env .Λ) #run·run code.function (code.unfolded 𝓤 H 𝓜 𝓡)
     (run-meets 𝓤 H (𝓖 .A) (givenOf 𝓤 H 𝓜 𝓖) (𝓜 .mem) (𝓡 .run) (tablesOf 𝓤 H 𝓜 (tables 𝓤 H 𝓜 𝓡 code.env))
-    (cited 𝓤 H (Begin.Called 𝓤 H (𝓖 .A) (𝓜 .mem) (𝓡 .run)) 𝓜 𝓡 code.env #steps·begin begin-def.routine code.calls-steps·begin (begin-thm.met 𝓤 H 𝓜 𝓖 𝓡))
-    (cited 𝓤 H (Turn.Called 𝓤 H (𝓖 .A) (𝓜 .mem) (𝓡 .run)) 𝓜 𝓡 code.env #steps·turn turn-def.routine code.calls-steps·turn (turn-thm.met 𝓤 H 𝓜 𝓖 𝓡))
+    (cited 𝓤 H (Begin.Called 𝓤 H (𝓖 .A) (𝓜 .mem) (𝓡 .run)) 𝓜 𝓡 code.env #run_steps·begin begin-def.routine code.calls-run_steps·begin (begin-thm.met 𝓤 H 𝓜 𝓖 𝓡))
+    (cited 𝓤 H (Turn.Called 𝓤 H (𝓖 .A) (𝓜 .mem) (𝓡 .run)) 𝓜 𝓡 code.env #run_steps·turn turn-def.routine code.calls-run_steps·turn (turn-thm.met 𝓤 H 𝓜 𝓖 𝓡))
     (cited 𝓤 H (Growth.Called 𝓤 H (𝓖 .A) (𝓜 .mem) (𝓡 .run)) 𝓜 𝓡 code.env #run·growth growth-def.routine code.calls-run·growth (growth-thm.met 𝓤 H 𝓜 𝓖 𝓡))
     (cited 𝓤 H (Charge.Called 𝓤 H (𝓖 .A) (𝓜 .mem) (𝓡 .run)) 𝓜 𝓡 code.env #run·charge charge-def.routine code.calls-run·charge (charge-thm.met 𝓤 H 𝓜 𝓖 𝓡)))

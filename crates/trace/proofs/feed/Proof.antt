@@ -5,8 +5,8 @@ use lib.ListN.{length, drop}
 use lib.Seq.{length-take-le}
 use borrow.Author.Needs.{needs}
 use borrow.Author.Tests.{ne-eqb}
-use Rattle.din.specs.Lines.{isText}
-use Rattle.din.proofs.Leading.{leading-short}
+use Rattle.trace_din.specs.Lines.{isText}
+use Rattle.trace_din.proofs.Leading.{leading-short}
 use Rattle.trace_count.specs.Counting.{Stage, Ready}
 use Rattle.trace_count.proofs.Laws.{ready-judged, judged-on}
 use Rattle.trace.specs.Feeding.{fed}
@@ -17,17 +17,11 @@ use Rattle.trace.proofs.feed.Tie as tie
 returns : tie.Need-returns
 returns c = sym (refused-stays _ (c .before .before .before .before .before .before .before .before .args .bytes .now) (ne-eqb _ _ (c .if1 .taken)))
 
-line-end-requires : tie.Need-line-end-requires
-line-end-requires c κs = search needs
-
 slice-aggregate-bytes : tie.Need-slice-aggregate-bytes
 slice-aggregate-bytes c =
     let s = c .before .before .before .before .before .before .before .before .before .before .before .before .args .bytes .now in
     let e = c .before .line-end in
     sym (length-take-le (e .result) s (omega (arith, e .ensures, leading-short isText s)))
-
-bytes-requires : tie.Need-bytes-requires
-bytes-requires c κs = search needs
 
 returns-2 : tie.Need-returns-2
 returns-2 c =
@@ -35,9 +29,6 @@ returns-2 c =
     let s = w .before .before .before .before .before .before .before .before .before .before .before .args .bytes .now in
     let z = w .before .before .before .if1 .left in
     fed-more _ s _ _ z (w .line-end .ensures) (c .if2 .taken) (c .before .bytes .ensures)
-
-parsed-requires : tie.Need-parsed-requires
-parsed-requires c κs = search needs
 
 judge-requires : tie.Need-judge-requires
 judge-requires c κs =
@@ -109,11 +100,11 @@ feed-spec =
     tie.close
     (tie.spec
     returns
-    line-end-requires
+    (λ c κs. search needs)
     slice-aggregate-bytes
-    bytes-requires
+    (λ c κs. search needs)
     returns-2
-    parsed-requires
+    (λ c κs. search needs)
     judge-requires
     same-length
     same-length-2

@@ -5,7 +5,7 @@ use native.Mathlib.Omega.{arith}
 use lib.ListN.{length, take, drop, length-drop}
 use borrow.Author.Needs.{needs}
 use borrow.Author.Tests.{ne-eqb}
-use Rattle.din.specs.Lines.{isText, leading}
+use Rattle.trace_din.specs.Lines.{isText, leading}
 use Rattle.trace_count.specs.Counting.{state, goingOn, Stage, Ready}
 use Rattle.trace_count.specs.declared.Count.{Count}
 use Rattle.trace_count.proofs.Laws.{ready-judged, judged-on}
@@ -37,9 +37,6 @@ part-rest-start c = omega (arith, c .before .loop .inv .0)
 
 part-rest-end : tie.Need-part-rest-end Inv-loop μ-loop
 part-rest-end c = omega (arith, c .before .loop .inv .0)
-
-first-line-requires : tie.Need-first-line-requires Inv-loop μ-loop
-first-line-requires c κs = search needs
 
 judge-requires : tie.Need-judge-requires Inv-loop μ-loop
 judge-requires c κs =
@@ -131,9 +128,6 @@ part-within-line-start c = omega (arith, c .before .loop .inv .0)
 part-within-line-end : tie.Need-part-within-line-end Inv-loop μ-loop
 part-within-line-end c = omega (arith, c .before .loop .inv .0)
 
-within-line-requires : tie.Need-within-line-requires Inv-loop μ-loop
-within-line-requires c κs = search needs
-
 same-length-6 : tie.Need-same-length-6 Inv-loop μ-loop
 same-length-6 c = c .before .before .before .loop .inv .2
 
@@ -170,7 +164,7 @@ feed-lines-spec =
     sub-rest
     part-rest-start
     part-rest-end
-    first-line-requires
+    (λ c κs. search needs)
     judge-requires
     same-length
     same-length-2
@@ -185,7 +179,7 @@ feed-lines-spec =
     sub-within-line
     part-within-line-start
     part-within-line-end
-    within-line-requires
+    (λ c κs. search needs)
     same-length-6
     same-length-7
     same-length-8

@@ -6,41 +6,14 @@ use borrow.Author.Needs.{needs}
 use Rattle.trace.proofs.finish.Statement.{statement}
 use Rattle.trace.proofs.finish.Tie as tie
 
-reported-requires : tie.Need-reported-requires
-reported-requires c κs = search needs
-
 returns : tie.Need-returns
 returns c = finished-refused _ _ (c .before .if1 .taken) (c .reported .ensures)
-
-reported-requires-2 : tie.Need-reported-requires-2
-reported-requires-2 c κs = search needs
 
 returns-2 : tie.Need-returns-2
 returns-2 c = finished-between _ _ (c .before .before .before .if1 .left) (omega (arith, c .before .if2 .taken)) (c .reported2 .ensures)
 
-parsed-requires : tie.Need-parsed-requires
-parsed-requires c κs = search needs
-
-judge-requires : tie.Need-judge-requires
-judge-requires c κs = search needs
-
 reported-requires-3 : tie.Need-reported-requires-3
 reported-requires-3 c κs = subst (λ (x : Stage). Bounded (x .count .account)) (sym (c .before .before .before .before .before .before .before .before .before .before .judge .ensures ∙ sym (ended-as _ _ (sym (c .before .before .before .before .before .before .before .before .before .before .before .before .before .before .before .before .parsed .ensures))))) (ready-ended _ (c .before .before .before .before .before .before .before .before .before .before .before .before .before .before .before .before .before .before .before .before .before .before .before .before .before .before .before .before .pre) .account)
-
-same-length : tie.Need-same-length
-same-length c = search needs
-
-same-length-2 : tie.Need-same-length-2
-same-length-2 c = search needs
-
-same-length-3 : tie.Need-same-length-3
-same-length-3 c = search needs
-
-same-length-4 : tie.Need-same-length-4
-same-length-4 c = search needs
-
-same-length-5 : tie.Need-same-length-5
-same-length-5 c = search needs
 
 returns-3 : tie.Need-returns-3
 returns-3 c = finished-within _ _ _ (c .before .before .before .before .before .before .before .before .before .before .before .before .before .before .before .before .before .before .before .before .before .if1 .left) (c .before .before .before .before .before .before .before .before .before .before .before .before .before .before .before .before .before .before .before .if2 .left) (c .before .before .before .before .before .before .before .before .before .before .before .judge .ensures ∙ sym (ended-as _ _ (sym (c .before .before .before .before .before .before .before .before .before .before .before .before .before .before .before .before .before .parsed .ensures)))) (c .reported3 .ensures)
@@ -49,16 +22,16 @@ pub finish-spec : {M : Type 1} → statement M
 finish-spec =
     tie.close
     (tie.spec
-    reported-requires
+    (λ c κs. search needs)
     returns
-    reported-requires-2
+    (λ c κs. search needs)
     returns-2
-    parsed-requires
-    judge-requires
+    (λ c κs. search needs)
+    (λ c κs. search needs)
     reported-requires-3
-    same-length
-    same-length-2
-    same-length-3
-    same-length-4
-    same-length-5
+    (λ c. search needs)
+    (λ c. search needs)
+    (λ c. search needs)
+    (λ c. search needs)
+    (λ c. search needs)
     returns-3)

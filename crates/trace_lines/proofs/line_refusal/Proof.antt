@@ -11,12 +11,6 @@ returns : tie.Need-returns
 unfolding lineRefusal
 returns c = λ n. simp (lt-leb (c .before .args .label) 2 (omega (arith, c .if1 .taken)))
 
-trace-setup-requires : tie.Need-trace-setup-requires
-trace-setup-requires c κs = search needs
-
-request-at-requires : tie.Need-request-at-requires
-request-at-requires c κs = search needs
-
 request-refusal-requires : tie.Need-request-refusal-requires
 request-refusal-requires c κs = rw (c .before .trace-setup .ensures) trace-fits
 
@@ -30,4 +24,4 @@ returns-2 c = λ n.
 pub line-refusal-spec : {M : Type 1} → statement M
 line-refusal-spec =
     tie.close
-    (tie.spec returns trace-setup-requires request-at-requires request-refusal-requires returns-2)
+    (tie.spec returns (λ c κs. search needs) (λ c κs. search needs) request-refusal-requires returns-2)

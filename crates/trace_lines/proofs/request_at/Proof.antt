@@ -4,12 +4,6 @@ use borrow.Author.Needs.{needs}
 use Rattle.trace_lines.proofs.request_at.Statement.{statement}
 use Rattle.trace_lines.proofs.request_at.Tie as tie
 
-processor-at-requires : tie.Need-processor-at-requires
-processor-at-requires c κs = search needs
-
-variable-at-requires : tie.Need-variable-at-requires
-variable-at-requires c κs = search needs
-
 returns : tie.Need-returns
 unfolding requestAt
 returns c = simp (c .before .before .processor-at .ensures, c .before .variable-at .ensures, eq-eqb _ _ (c .if1 .taken))
@@ -19,4 +13,4 @@ unfolding requestAt
 returns-2 c = simp (c .before .before .processor-at .ensures, c .before .variable-at .ensures, ne-eqb _ _ (c .if1 .left))
 
 pub request-at-spec : {M : Type 1} → statement M
-request-at-spec = tie.close (tie.spec processor-at-requires variable-at-requires returns returns-2)
+request-at-spec = tie.close (tie.spec (λ c κs. search needs) (λ c κs. search needs) returns returns-2)

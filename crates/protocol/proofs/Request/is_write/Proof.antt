@@ -4,12 +4,6 @@ use Rattle.protocol.specs.Requests.{isWrite}
 use Rattle.protocol.proofs.Request.is_write.Statement.{statement}
 use Rattle.protocol.proofs.Request.is_write.Tie as tie
 
-enum-told : tie.Need-enum-told
-enum-told c = search needs
-
-enum-told-2 : tie.Need-enum-told-2
-enum-told-2 c = search needs
-
 returns : tie.Need-returns
 unfolding isWrite
 returns c = search needs
@@ -19,4 +13,4 @@ unfolding isWrite
 returns-2 c = search needs
 
 pub is-write-spec : {M : Type 1} → statement M
-is-write-spec = tie.close (tie.spec enum-told enum-told-2 returns returns-2)
+is-write-spec = tie.close (tie.spec (λ c. search needs) (λ c. search needs) returns returns-2)

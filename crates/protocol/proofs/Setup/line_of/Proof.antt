@@ -4,12 +4,9 @@ use Rattle.protocol.specs.Board.{lineOf}
 use Rattle.protocol.proofs.Setup.line_of.Statement.{statement}
 use Rattle.protocol.proofs.Setup.line_of.Tie as tie
 
-rem-result : tie.Need-rem-result
-rem-result c = search needs
-
 returns : tie.Need-returns
 unfolding lineOf
 returns c = refl
 
 pub line-of-spec : {M : Type 1} → statement M
-line-of-spec = tie.close (tie.spec rem-result returns)
+line-of-spec = tie.close (tie.spec (λ c. search needs) returns)

@@ -4,12 +4,9 @@ use Rattle.protocol.specs.Board.{offsetOf}
 use Rattle.protocol.proofs.Setup.offset_of.Statement.{statement}
 use Rattle.protocol.proofs.Setup.offset_of.Tie as tie
 
-rem-result : tie.Need-rem-result
-rem-result c = search needs
-
 returns : tie.Need-returns
 unfolding offsetOf
 returns c = refl
 
 pub offset-of-spec : {M : Type 1} → statement M
-offset-of-spec = tie.close (tie.spec rem-result returns)
+offset-of-spec = tie.close (tie.spec (λ c. search needs) returns)

@@ -10,12 +10,6 @@ use Rattle.protocol.specs.declared.Variable.{Variable}
 use Rattle.protocol.proofs.Setup.request_refusal.Statement.{statement}
 use Rattle.protocol.proofs.Setup.request_refusal.Tie as tie
 
-variable-requires : tie.Need-variable-requires
-variable-requires c κs = search needs
-
-variable-count-requires : tie.Need-variable-count-requires
-variable-count-requires c κs = search needs
-
 returns : tie.Need-returns
 unfolding requestRefusal
 returns c =
@@ -58,4 +52,4 @@ returns-4 c =
 pub request-refusal-spec : {M : Type 1} → statement M
 request-refusal-spec =
     tie.close
-    (tie.spec variable-requires variable-count-requires returns returns-2 returns-3 returns-4)
+    (tie.spec (λ c κs. search needs) (λ c κs. search needs) returns returns-2 returns-3 returns-4)

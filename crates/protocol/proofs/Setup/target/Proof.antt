@@ -6,15 +6,9 @@ use Rattle.protocol.specs.Requests.{target}
 use Rattle.protocol.proofs.Setup.target.Statement.{statement}
 use Rattle.protocol.proofs.Setup.target.Tie as tie
 
-variable-requires : tie.Need-variable-requires
-variable-requires c κs = search needs
-
-block-of-requires : tie.Need-block-of-requires
-block-of-requires c κs = search needs
-
 returns : tie.Need-returns
 unfolding target
 returns c = c .block-of .ensures ∙ ap (blockOf (c .before .before .args .self)) (c .before .variable .ensures)
 
 pub target-spec : {M : Type 1} → statement M
-target-spec = tie.close (tie.spec variable-requires block-of-requires returns)
+target-spec = tie.close (tie.spec (λ c κs. search needs) (λ c κs. search needs) returns)

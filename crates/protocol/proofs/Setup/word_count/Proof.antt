@@ -6,12 +6,6 @@ use borrow.Author.Needs.{needs}
 use Rattle.protocol.proofs.Setup.word_count.Statement.{statement}
 use Rattle.protocol.proofs.Setup.word_count.Tie as tie
 
-slot-count-requires : tie.Need-slot-count-requires
-slot-count-requires c κs = search needs
-
-cast-result : tie.Need-cast-result
-cast-result c = search needs
-
 mul-result : tie.Need-mul-result
 mul-result c =
     let a = c .before .before .args in
@@ -22,4 +16,4 @@ returns : tie.Need-returns
 returns c = rw (c .before .slot-count .ensures)
 
 pub word-count-spec : {M : Type 1} → statement M
-word-count-spec = tie.close (tie.spec slot-count-requires cast-result mul-result returns)
+word-count-spec = tie.close (tie.spec (λ c κs. search needs) (λ c. search needs) mul-result returns)

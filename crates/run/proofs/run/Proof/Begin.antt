@@ -33,13 +33,13 @@ use Rattle.protocol.proofs.Setup.Laws as Setup-l
 use Rattle.protocol.specs.declared.Account.{Account}
 use Rattle.protocol.proofs.Account as Account-t
 use Rattle.protocol.proofs.Account.Laws as Account-l
-use Rattle.steps.specs.declared.Progress.{Progress}
-use Rattle.steps.proofs.Progress as Progress-t
-use Rattle.steps.proofs.Progress.Laws as Progress-l
+use Rattle.run_steps.specs.declared.Progress.{Progress}
+use Rattle.run_steps.proofs.Progress as Progress-t
+use Rattle.run_steps.proofs.Progress.Laws as Progress-l
 use Rattle.protocol.specs.Tables.{tables as lent}
-use Rattle.steps.specs.Steps.{begun}
+use Rattle.run_steps.specs.Steps.{begun}
 use Rattle.walks.proofs.Opening.{at-list, slice-at, Cells, Shared, slice-shares, slice-unshares}
-use Rattle.steps.proofs.begin as begin
+use Rattle.run_steps.proofs.begin as begin
 
 module _ {M : Type 1} (𝓤 : URA M) (H : Heap 𝓤) (A : Atoms 𝓤) (mem : Memory → SProp 𝓤) (run″ : Routine → Fun 𝓤) where
   abbrev pub Called : Contract 𝓤

@@ -20,9 +20,9 @@ use denote.Triple.Spec.{tripleOf}
 use denote.Triple.Statement.{Contract}
 use denote.Triple.Clauses.{ensured, lasts}
 use denote.Triple.Walked.{says}
-use Rattle.steps.specs.declared.Progress.{Progress}
-use Rattle.steps.proofs.Progress as Progress-t
-use Rattle.steps.proofs.Progress.Laws as Progress-l
+use Rattle.run_steps.specs.declared.Progress.{Progress}
+use Rattle.run_steps.proofs.Progress as Progress-t
+use Rattle.run_steps.proofs.Progress.Laws as Progress-l
 use Rattle.protocol.specs.declared.Account.{Account}
 use Rattle.protocol.proofs.Account as Account-t
 use Rattle.protocol.proofs.Account.Laws as Account-l

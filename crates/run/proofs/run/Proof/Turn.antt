@@ -31,15 +31,15 @@ use denote.Triple.Walked.{says}
 use Rattle.protocol.specs.declared.Setup.{Setup}
 use Rattle.protocol.proofs.Setup as Setup-t
 use Rattle.protocol.proofs.Setup.Laws as Setup-l
-use Rattle.steps.specs.declared.Progress.{Progress}
-use Rattle.steps.proofs.Progress as Progress-t
-use Rattle.steps.proofs.Progress.Laws as Progress-l
+use Rattle.run_steps.specs.declared.Progress.{Progress}
+use Rattle.run_steps.proofs.Progress as Progress-t
+use Rattle.run_steps.proofs.Progress.Laws as Progress-l
 use Rattle.protocol.specs.declared.Request.{Request}
 use Rattle.protocol.proofs.Request as Request-t
 use Rattle.protocol.proofs.Request.Laws as Request-l
-use Rattle.steps.specs.Steps.{Stage, stage, Ready, turned}
+use Rattle.run_steps.specs.Steps.{Stage, stage, Ready, turned}
 use Rattle.walks.proofs.Opening.{at-list, slice-at, Cells, Loan, slice-lends, slice-returns}
-use Rattle.steps.proofs.turn as turn
+use Rattle.run_steps.proofs.turn as turn
 
 module _ {M : Type 1} (𝓤 : URA M) (H : Heap 𝓤) (A : Atoms 𝓤) (mem : Memory → SProp 𝓤) (run″ : Routine → Fun 𝓤) where
   abbrev pub Called : Contract 𝓤

@@ -8,12 +8,9 @@ returns : tie.Need-returns
 unfolding reported
 returns c = simp (c .if1 .taken)
 
-add-t4 : tie.Need-add-t4
-add-t4 c = search needs
-
 returns-2 : tie.Need-returns-2
 unfolding reported
 returns-2 c = simp (ne-eqb _ _ (c .before .if1 .left))
 
 pub reported-spec : {M : Type 1} → statement M
-reported-spec = tie.close (tie.spec returns add-t4 returns-2)
+reported-spec = tie.close (tie.spec returns (λ c. search needs) returns-2)

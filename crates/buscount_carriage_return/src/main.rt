@@ -1,4 +1,0 @@
-// A carriage return ends an address.
-fn main() {
-    report::run();
-}

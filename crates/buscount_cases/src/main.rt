@@ -1,4 +1,0 @@
-// Digits of either case, tabs and ignored text.
-fn main() {
-    report::run();
-}

@@ -1,4 +1,0 @@
-// 8 digits are taken, 9 are malformed.
-fn main() {
-    report::run();
-}

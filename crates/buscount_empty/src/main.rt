@@ -1,4 +1,0 @@
-// Empty input has no line.
-fn main() {
-    report::run();
-}

@@ -1,4 +1,0 @@
-// An empty line is malformed.
-fn main() {
-    report::run();
-}

@@ -1,4 +1,0 @@
-// Label 3 is refused, before its processor.
-fn main() {
-    report::run();
-}

@@ -1,4 +1,0 @@
-// A last line may lack its newline.
-fn main() {
-    report::run();
-}

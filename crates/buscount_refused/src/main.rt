@@ -1,0 +1,4 @@
+// Processor 4 is refused, before its variable.
+fn main() {
+    trace_report::run();
+}

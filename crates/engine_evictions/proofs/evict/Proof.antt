@@ -1,0 +1,31 @@
+-- Saved, then emptied.
+use borrow.Author.Needs.{needs}
+use mathlib.Core.Path.{ap, _∙_}
+use denote.Ref.{now}
+use Rattle.protocol.specs.Tables.{Tables}
+use Rattle.protocol.specs.Rules.{emptied, evicted}
+use Rattle.engine_evictions.proofs.evict.Statement.{statement}
+use Rattle.engine_evictions.proofs.evict.Tie as tie
+
+returns : tie.Need-returns
+unfolding evicted
+returns c =
+    let start = c .before .before .before .before .before .before .before .before .before .before .before .before .before .before .before .before .before .before .before .before .before .before .before .before .before .before .before in
+    let save′ = c .before .before .before .before .before .before .before .before .before .before .before .before .before .before .before .before .before .save in
+    let empty-line′ = c .before .before .before .before .before .before .before .before .empty-line in
+    let a = start .args in
+    let e = save′ .ensures (now (a .counters)) in
+    (e .0, empty-line′ .ensures _ ∙ ap (λ (t : Tables). emptied (a .setup) t (a .k)) (e .1))
+
+pub evict-spec : {M : Type 1} → statement M
+evict-spec =
+    tie.close
+    (tie.spec
+    (λ c κs. search needs)
+    (λ c κs. search needs)
+    (λ c. search needs)
+    (λ c. search needs)
+    (λ c. search needs)
+    (λ c. search needs)
+    (λ c. search needs)
+    returns)

@@ -1,0 +1,25 @@
+-- A block is marked where it is held and its slot is marked.
+use mathlib.Core.Bool.{and-false, and-true}
+use borrow.Author.Needs.{needs}
+use borrow.Author.Tests.{eq-eqb, ne-eqb}
+use Rattle.protocol.specs.Lists.{at}
+use Rattle.protocol.specs.Tables.{holds, marked}
+use Rattle.engine_holders.specs.Places.{owns}
+use Rattle.engine_holders.proofs.owns.Statement.{statement}
+use Rattle.engine_holders.proofs.owns.Tie as tie
+
+returns : tie.Need-returns
+unfolding owns holds marked
+returns c w g =
+    let slot′ = c .before .before in
+    let mark = at (slot′ .before .before .before .before .args .marks .now) (slot′ .slot .result) in
+    rw (← (slot′ .slot .ensures .value)) (simp (ne-eqb mark 1 (c .if1 .taken), and-false))
+
+returns-2 : tie.Need-returns-2
+unfolding owns holds marked
+returns-2 c w g =
+    rw (← (c .before .before .before .slot .ensures .value), ← (c .line-holds .ensures _ w g))
+    (simp (eq-eqb _ _ (c .before .if1 .left), and-true))
+
+pub owns-spec : {M : Type 1} → statement M
+owns-spec = tie.close (tie.spec (λ c κs. search needs) (λ c. search needs) (λ c. search needs) returns (λ c κs. search needs) returns-2)

@@ -1,0 +1,42 @@
+-- The counter decides.
+use borrow.Author.Needs.{needs}
+use borrow.Author.Tests.{eq-eqb, ne-eqb}
+use denote.Ref.{now}
+use Rattle.protocol.specs.Lists.{at}
+use Rattle.protocol.specs.Rules.{charged}
+use Rattle.engine_lines.proofs.charge.Statement.{statement}
+use Rattle.engine_lines.proofs.charge.Tie as tie
+
+returns : tie.Need-returns
+unfolding charged
+returns c g =
+    let start = c .before .before .before .before .before .before .before .before .before .before .before .before .before .before .before .before .before .before .before in
+    let if1′ = c .before .before .before .before .before .before .before .before .before .before .before .before .before .if1 in
+    let empty-line′ = c .before .before .before .before .before .before .before .before .empty-line in
+    rw (eq-eqb (at (now (start .args .counters)) (start .args .k)) 1 (if1′ .taken)) (empty-line′ .ensures g)
+
+returns-2 : tie.Need-returns-2
+unfolding charged
+returns-2 c g =
+    let start = c .before .before .before .before .before .before .before in
+    rw (ne-eqb (at (now (start .args .counters)) (start .args .k)) 1 (c .before .if1 .left))
+
+pub charge-spec : {M : Type 1} → statement M
+charge-spec =
+    tie.close
+    (tie.spec
+    (λ c. search needs)
+    (λ c. search needs)
+    (λ c κs. search needs)
+    (λ c. search needs)
+    (λ c. search needs)
+    (λ c. search needs)
+    (λ c. search needs)
+    returns
+    (λ c. search needs)
+    (λ c. search needs)
+    (λ c. search needs)
+    (λ c. search needs)
+    (λ c. search needs)
+    (λ c. search needs)
+    returns-2)

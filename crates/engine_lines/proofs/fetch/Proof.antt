@@ -1,0 +1,28 @@
+-- Released, then filled.
+use borrow.Author.Needs.{needs}
+use mathlib.Core.Path.{ap, _∙_}
+use Rattle.protocol.specs.Tables.{Tables}
+use Rattle.protocol.specs.Rules.{filled, fetched}
+use Rattle.engine_lines.proofs.fetch.Statement.{statement}
+use Rattle.engine_lines.proofs.fetch.Tie as tie
+
+returns : tie.Need-returns
+unfolding fetched
+returns c =
+    let start = c .before .before .before .before .before .before .before .before .before .before .before .before .before .before .before .before .before .before .before .before .before .before .before .before .before .before .before .before .before in
+    let fill′ = c .before .before .before .before .before .before .before .before .fill in
+    let release′ = c .before .before .before .before .before .before .before .before .before .before .before .before .before .before .before .before .before .before .release in
+    let a = start .args in fill′ .ensures ∙ ap (λ (t : Tables). filled (a .setup) t (a .k) (a .block)) (release′ .ensures)
+
+pub fetch-spec : {M : Type 1} → statement M
+fetch-spec =
+    tie.close
+    (tie.spec
+    (λ c κs. search needs)
+    (λ c κs. search needs)
+    (λ c. search needs)
+    (λ c. search needs)
+    (λ c. search needs)
+    (λ c. search needs)
+    (λ c. search needs)
+    returns)

@@ -1,0 +1,77 @@
+use mathlib.Core.Path.{sym, _∙_}
+use native.Mathlib.Omega.{arith}
+use borrow.Author.Tests.{eq-eqb, ne-eqb}
+use denote.Ref.{now}
+use Rattle.protocol.specs.Lists.{at}
+use Rattle.protocol.specs.Board.{slots, wordIndex}
+use Rattle.protocol.specs.Rules.{payer}
+use Rattle.protocol.specs.Soundness.{copyLine}
+use Rattle.protocol.proofs.Rows.{row-end}
+use borrow.Author.Needs.{needs}
+use Rattle.engine_soundness.proofs.copy_sound.Statement.{statement}
+use Rattle.engine_soundness.proofs.copy_sound.Tie as tie
+
+mul-same-part : tie.Need-mul-same-part
+unfolding wordIndex
+mul-same-part c =
+    let a = c .before .before .before .before .before .before .before .before .before .args in
+    omega (arith, row-end (a .setup) (a .k) (slots (a .setup)) (c .before .before .before .before .before .before .before .before .before .pre .1 .0))
+
+mul-same-part-2 : tie.Need-mul-same-part-2
+unfolding wordIndex
+mul-same-part-2 c =
+    let a = c .before .before .before .before .before .before .before .before .before .args in
+    omega (arith, row-end (a .setup) (at (now (a .blocks)) (a .k)) (a .setup .blocks) (c .before .before .before .before .before .before .before .before .before .pre .1 .1 .1))
+
+same-part-requires : tie.Need-same-part-requires
+unfolding wordIndex
+same-part-requires c κs =
+    let a = c .before .before .before .before .before .before .before .before .before .args in
+    (omega (arith, row-end (a .setup) (a .k) (slots (a .setup)) (c .before .before .before .before .before .before .before .before .before .pre .1 .0)), omega (arith, row-end (a .setup) (at (now (a .blocks)) (a .k)) (a .setup .blocks) (c .before .before .before .before .before .before .before .before .before .pre .1 .1 .1)))
+
+returns : tie.Need-returns
+unfolding copyLine wordIndex
+returns c = rw (eq-eqb _ _ (c .before .before .if1 .taken)) (c .same-part .ensures)
+
+returns-2 : tie.Need-returns-2
+unfolding copyLine
+returns-2 c = rw (ne-eqb _ _ (c .before .before .if1 .left), ne-eqb _ _ (c .if2 .taken))
+
+returns-3 : tie.Need-returns-3
+unfolding copyLine
+returns-3 c = rw (ne-eqb _ _ (c .before .before .before .before .before .if1 .left), eq-eqb _ _ (c .before .before .before .if2 .left), ne-eqb _ _ (λ e. c .if3 .taken (e ∙ sym (c .before .fetch-price .ensures))))
+
+returns-4 : tie.Need-returns-4
+unfolding copyLine payer
+returns-4 c =
+    let a = c .before .before .before .before .before .before .before .before .before .before .before .before .before .before .before .args in
+    rw (
+      ne-eqb _ _ (c .before .before .before .before .before .before .before .if1 .left),
+      eq-eqb _ _ (c .before .before .before .before .before .if2 .left),
+      eq-eqb _ _ (c .before .before .if3 .left ∙ c .before .before .before .fetch-price .ensures),
+      c .before .payer .ensures (now (a .marks)) (now (a .words)) (now (a .memory)),
+    )
+
+pub copy-sound-spec : {M : Type 1} → statement M
+copy-sound-spec =
+    tie.close
+    (tie.spec
+    (λ c. search needs)
+    (λ c. search needs)
+    (λ c. search needs)
+    (λ c. search needs)
+    (λ c. search needs)
+    mul-same-part
+    (λ c. search needs)
+    mul-same-part-2
+    same-part-requires
+    returns
+    (λ c. search needs)
+    (λ c. search needs)
+    returns-2
+    (λ c. search needs)
+    (λ c. search needs)
+    (λ c κs. search needs)
+    returns-3
+    (λ c κs. search needs)
+    returns-4)

@@ -1,0 +1,121 @@
+// The soundness scan.
+use protocol::Block;
+use protocol::Setup;
+ghost use mathlib.Core.Path.{_≡_};
+ghost use mathlib.Core.List.{List};
+ghost use Prim.Native.Nat.{ℕ, _+_, _*_, _<_};
+ghost use lib.ListN.{length};
+ghost use Rattle.protocol.specs.Lists.{at};
+ghost use Rattle.protocol.specs.Board.{Fits, slots};
+ghost use Rattle.protocol.specs.Tables.{tables, Sized};
+ghost use Rattle.protocol.specs.Soundness.{emptyLine, copyLine, soundLine, sound};
+
+// Whether the empty line at slot k is all 0.
+fn empty_line_sound(setup: Setup, k: usize, blocks: &[u32], marks: &[u32], words: &[u32]) -> bool
+    requires { ⌜ Fits setup ⌝ }
+    requires { ⌜ k < slots setup ⌝ }
+    requires { ⌜ (length (now blocks) ≡ slots setup) × (length (now marks) ≡ slots setup) × (length (now words) ≡ slots setup * setup .words) ⌝ }
+    ensures { λ r. ⌜ ((c g : List ℕ) → r ≡ emptyLine setup (tables (now (blocks .entry)) c (now (marks .entry)) (now (words .entry)) g) k) ⌝ }
+{
+    if blocks[k] != 0 {
+        return false;
+    }
+    if marks[k] != 0 {
+        return false;
+    }
+    let p = setup.words as usize;
+    parts::zero_part(words, k * p, p)
+}
+
+// Whether the copy at slot k, of processor i, equals main memory if unmarked, and is full and alone if marked.
+fn copy_sound(
+    setup: Setup,
+    i: u32,
+    k: usize,
+    blocks: &[u32],
+    counters: &[u32],
+    marks: &[u32],
+    words: &[u32],
+    memory: &[u32],
+) -> bool
+    requires { ⌜ Fits setup ⌝ }
+    requires { ⌜ k < slots setup ⌝ }
+    requires { ⌜ Sized setup (tables (now blocks) (now counters) (now marks) (now words) (now memory)) ⌝ }
+    requires { ⌜ at (now blocks) k < setup .blocks ⌝ }
+    ensures { λ r. ⌜ r ≡ copyLine setup (tables (now (blocks .entry)) (now (counters .entry)) (now (marks .entry)) (now (words .entry)) (now (memory .entry))) i k ⌝ }
+{
+    let block = blocks[k];
+    if marks[k] == 0 {
+        let p = setup.words as usize;
+        return parts::same_part(words, k * p, memory, block as usize * p, p);
+    }
+    if marks[k] != 1 {
+        return false;
+    }
+    if counters[k] != setup.fetch_price() {
+        return false;
+    }
+    setup.processors <= engine_holders::payer(setup, i, Block(block), blocks, counters)
+}
+
+// Whether line l of processor i is sound.
+fn line_sound(
+    setup: Setup,
+    i: u32,
+    l: u32,
+    blocks: &[u32],
+    counters: &[u32],
+    marks: &[u32],
+    words: &[u32],
+    memory: &[u32],
+) -> bool
+    requires { ⌜ Fits setup ⌝ }
+    requires { ⌜ (i < setup .processors) × (l < setup .lines) ⌝ }
+    requires { ⌜ Sized setup (tables (now blocks) (now counters) (now marks) (now words) (now memory)) ⌝ }
+    ensures { λ r. ⌜ r ≡ soundLine setup (tables (now (blocks .entry)) (now (counters .entry)) (now (marks .entry)) (now (words .entry)) (now (memory .entry))) i l (i * setup .lines + l) ⌝ }
+{
+    let k = (i * setup.lines + l) as usize;
+    if counters[k] == 0 {
+        return empty_line_sound(setup, k, blocks, marks, words);
+    }
+    if counters[k] > setup.fetch_price() {
+        return false;
+    }
+    let block = blocks[k];
+    if block >= setup.blocks {
+        return false;
+    }
+    if setup.line_of(Block(block)) != l {
+        return false;
+    }
+    copy_sound(setup, i, k, blocks, counters, marks, words, memory)
+}
+
+// Whether every line of every processor is sound.
+pub fn is_sound(
+    setup: Setup,
+    blocks: &[u32],
+    counters: &[u32],
+    marks: &[u32],
+    words: &[u32],
+    memory: &[u32],
+) -> bool
+    requires { ⌜ Fits setup ⌝ }
+    requires { ⌜ Sized setup (tables (now blocks) (now counters) (now marks) (now words) (now memory)) ⌝ }
+    ensures { λ r. ⌜ r ≡ sound setup (tables (now (blocks .entry)) (now (counters .entry)) (now (marks .entry)) (now (words .entry)) (now (memory .entry))) ⌝ }
+{
+    let n = setup.processors;
+    let m = setup.lines;
+    let mut i = 0;
+    'scan: while i < n {
+        let mut l = 0;
+        while l < m {
+            if !line_sound(setup, i, l, blocks, counters, marks, words, memory) {
+                break 'scan;
+            }
+            l += 1;
+        }
+        i += 1;
+    }
+    i == n
+}

@@ -1,0 +1,119 @@
+// Starting and looking.
+use protocol::Block;
+use protocol::Setup;
+ghost use mathlib.Core.Path.{_≡_};
+ghost use Rattle.protocol.specs.Board.{Fits};
+ghost use Rattle.protocol.specs.Tables.{tables};
+ghost use Rattle.protocol.specs.Runs.{startRefusal, started, looked};
+ghost use Rattle.engine_tables.specs.Entries.{lengthsFit, seen};
+
+// Whether tables of these lengths are let through by condition 2.
+pub fn lengths_fit(
+    setup: Setup,
+    blocks: usize,
+    counters: usize,
+    marks: usize,
+    words: usize,
+    memory: usize,
+) -> bool
+    requires { ⌜ Fits setup ⌝ }
+    ensures { λ r. ⌜ r ≡ lengthsFit setup blocks counters marks words memory ⌝ }
+{
+    if blocks != setup.slot_count() {
+        return false;
+    }
+    if counters != setup.slot_count() {
+        return false;
+    }
+    if marks != setup.slot_count() {
+        return false;
+    }
+    if words != setup.word_count() {
+        return false;
+    }
+    memory == setup.variable_count() as usize
+}
+
+// Fills all tables with 0. The refusal number, or 0.
+pub fn start(
+    setup: Setup,
+    blocks: &mut [u32],
+    counters: &mut [u32],
+    marks: &mut [u32],
+    words: &mut [u32],
+    memory: &mut [u32],
+) -> u32
+    ensures { λ r. ⌜ (r ≡ startRefusal setup (tables (now (blocks .entry)) (now (counters .entry)) (now (marks .entry)) (now (words .entry)) (now (memory .entry)))) × (tables (now (blocks .exit)) (now (counters .exit)) (now (marks .exit)) (now (words .exit)) (now (memory .exit)) ≡ started setup (tables (now (blocks .entry)) (now (counters .entry)) (now (marks .entry)) (now (words .entry)) (now (memory .entry)))) ⌝ }
+{
+    if !setup.in_range() {
+        return protocol::SETUP_OUT_OF_RANGE;
+    }
+    if !lengths_fit(
+        setup,
+        blocks.len(),
+        counters.len(),
+        marks.len(),
+        words.len(),
+        memory.len(),
+    ) {
+        return protocol::WRONG_LENGTH;
+    }
+    parts::clear(blocks);
+    parts::clear(counters);
+    parts::clear(marks);
+    parts::clear(words);
+    parts::clear(memory);
+    protocol::NO_REFUSAL
+}
+
+// Whether a look at a block in a processor's cache shows it, the words being `count`.
+fn sees(
+    setup: Setup,
+    processor: u32,
+    block: Block,
+    blocks: &[u32],
+    counters: &[u32],
+    count: usize,
+) -> bool
+    ensures { λ r. ⌜ r ≡ seen setup (now (blocks .entry)) (now (counters .entry)) count processor block ⌝ }
+{
+    if !setup.in_range() {
+        return false;
+    }
+    if blocks.len() != setup.slot_count() {
+        return false;
+    }
+    if counters.len() != setup.slot_count() {
+        return false;
+    }
+    if count != setup.word_count() {
+        return false;
+    }
+    if processor >= setup.processors {
+        return false;
+    }
+    if block.0 >= setup.blocks {
+        return false;
+    }
+    engine_holders::holds(setup, processor, block, blocks, counters)
+}
+
+// The words of a block in a processor's cache; none where it is not held there.
+pub fn look<'a>(
+    setup: Setup,
+    processor: u32,
+    block: Block,
+    blocks: &[u32],
+    counters: &[u32],
+    words: &'a [u32],
+) -> &'a [u32]
+    ensures { λ r. ⌜ now r ≡ looked setup (now (blocks .entry)) (now (counters .entry)) (now (words .entry)) processor block ⌝ }
+{
+    if !sees(setup, processor, block, blocks, counters, words.len()) {
+        return &words[0..0];
+    }
+    let p = setup.words as usize;
+    let a = engine_holders::slot(setup, processor, block) * p;
+    let e = a + p;
+    &words[a..e]
+}

@@ -1,0 +1,84 @@
+// Requests and a schedule's entries, read from lists of numbers.
+use protocol::Block;
+use protocol::Entry;
+use protocol::Operation;
+use protocol::Request;
+use protocol::Variable;
+ghost use mathlib.Core.Path.{_≡_};
+ghost use Prim.Native.Nat.{_+_, _*_, _/_, _<_};
+ghost use lib.ListN.{length};
+ghost use Rattle.protocol.specs.Lists.{at};
+ghost use Rattle.host_decoding.specs.Records.{requestOf, requestsOf, entryOf, entriesOf};
+
+// How many numbers name a request.
+const REQUEST_WIDTH: usize = 4;
+
+// How many numbers name an entry.
+const ENTRY_WIDTH: usize = 3;
+
+// How many requests a list of numbers names.
+pub fn request_count(numbers: &[u32]) -> usize
+    ensures { λ r. ⌜ r ≡ length (requestsOf (now (numbers .entry))) ⌝ }
+{
+    numbers.len() / REQUEST_WIDTH
+}
+
+// A request by its four numbers.
+fn request_of(processor: u32, operation: u32, variable: u32, value: u32) -> Request
+    ensures { λ r. ⌜ r ≡ requestOf processor operation variable value ⌝ }
+{
+    if operation == 1 {
+        return Request {
+            processor: processor,
+            operation: Operation::Write(Variable(variable), value),
+        };
+    }
+    Request {
+        processor: processor,
+        operation: Operation::Read(Variable(variable)),
+    }
+}
+
+// Request i of a list of numbers.
+pub fn request_at(numbers: &[u32], i: usize) -> Request
+    requires { ⌜ i < length (now numbers) / 4 ⌝ }
+    ensures { λ r. ⌜ r ≡ requestOf (at (now (numbers .entry)) (i * 4)) (at (now (numbers .entry)) (i * 4 + 1)) (at (now (numbers .entry)) (i * 4 + 2)) (at (now (numbers .entry)) (i * 4 + 3)) ⌝ }
+{
+    let k = i * REQUEST_WIDTH;
+    request_of(numbers[k], numbers[k + 1], numbers[k + 2], numbers[k + 3])
+}
+
+// How many entries a list of numbers names.
+pub fn entry_count(numbers: &[u32]) -> usize
+    ensures { λ r. ⌜ r ≡ length (entriesOf (now (numbers .entry))) ⌝ }
+{
+    numbers.len() / ENTRY_WIDTH
+}
+
+// An entry by its three numbers.
+fn entry_of(kind: u32, processor: u32, block: u32) -> Entry
+    ensures { λ r. ⌜ r ≡ entryOf kind processor block ⌝ }
+{
+    if kind == 0 {
+        return Entry::Fetch(processor, Block(block));
+    }
+    if kind == 1 {
+        return Entry::WriteBack(processor, Block(block));
+    }
+    if kind == 2 {
+        return Entry::Drop(processor, Block(block));
+    }
+    if kind == 3 {
+        return Entry::Complete;
+    }
+    Entry::CompleteByBroadcast
+}
+
+// Entry i of a list of numbers.
+pub fn entry_at(numbers: &[u32], i: usize) -> Entry
+    requires { ⌜ i < length (now numbers) / 3 ⌝ }
+    ensures { λ r. ⌜ r ≡ entryOf (at (now (numbers .entry)) (i * 3)) (at (now (numbers .entry)) (i * 3 + 1)) (at (now (numbers .entry)) (i * 3 + 2)) ⌝ }
+{
+    let k = i * ENTRY_WIDTH;
+    entry_of(numbers[k], numbers[k + 1], numbers[k + 2])
+}

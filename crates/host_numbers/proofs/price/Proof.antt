@@ -1,0 +1,116 @@
+use borrow.Author.Needs.{needs}
+use mathlib.Core.Path.{_≡_, refl}
+use denote.Ref.{now}
+use lib.ListN.{length}
+use Rattle.protocol.specs.Rival.{Rival, rival}
+use Rattle.rival_pricing.specs.Stages.{stage}
+use Rattle.rival_pricer.proofs.Loop.{due, inv-end}
+use Rattle.host_decoding.specs.Records.{requestsOf, entriesOf}
+use Rattle.host_numbers.proofs.Prices.{Invariant, measure, begins, request-within, completes, completes-falls, entry-within, takes, takes-falls}
+use Rattle.host_numbers.proofs.price.Statement.{statement}
+use Rattle.host_numbers.proofs.price.Tie as tie
+use Rattle.host_numbers.proofs.price.Reads as reads
+use Rattle.host_numbers.proofs.price.Lts as lts
+use Rattle.host_decoding.proofs.entry_at.Reads as entry-at-reads
+use Rattle.host_decoding.proofs.entry_count.Reads as entry-count-reads
+use Rattle.host_decoding.proofs.request_at.Reads as request-at-reads
+use Rattle.host_decoding.proofs.request_count.Reads as request-count-reads
+use Rattle.rival_schedule.proofs.begin.Reads as begin-reads
+use Rattle.rival_schedule.proofs.complete.Reads as complete-reads
+use Rattle.rival_schedule.proofs.take.Reads as take-reads
+
+abbrev Inv-loop : tie.InvT-loop
+Inv-loop setup blocks₀ held₀ marks₀ entries requests entry-count request-count p₀ blocks held marks p =
+    ((r : Rival) → Invariant setup r entries requests (stage p₀ blocks₀ held₀ marks₀) → Invariant setup r entries requests (stage p blocks held marks))
+    × (length blocks ≡ length blocks₀) × (length held ≡ length held₀) × (length marks ≡ length marks₀)
+
+abbrev μ-loop : tie.MeasureT-loop
+μ-loop setup blocks₀ held₀ marks₀ entries requests entry-count request-count p₀ blocks held marks p =
+    measure setup (rival blocks₀ held₀ marks₀) entries requests (stage p blocks held marks)
+
+loop-holds : tie.Need-loop-holds Inv-loop μ-loop
+loop-holds c = (λ r i. i, refl, refl, refl)
+
+-- what the loop began with is the start of the whole pricing
+here : (c : tie.At-loop Inv-loop μ-loop)
+    → Invariant (c .before .before .before .before .before .before .before .before .before .before .before .before .before .before .before .before .before .before .args .setup) (rival (now (c .before .before .before .before .before .before .before .before .before .before .before .before .before .before .before .before .before .before .args .blocks)) (now (c .before .before .before .before .before .before .before .before .before .before .before .before .before .before .before .before .before .before .args .held)) (now (c .before .before .before .before .before .before .before .before .before .before .before .before .before .before .before .before .before .before .args .marks))) (now (c .before .before .before .before .before .before .before .before .before .before .before .before .before .before .before .before .before .before .args .entries)) (now (c .before .before .before .before .before .before .before .before .before .before .before .before .before .before .before .before .before .before .args .requests)) (stage (c .loop .p) (c .loop .blocks) (c .loop .held) (c .loop .marks))
+here c =
+    let a = c .before .before .before .before .before .before .before .before .before .before .before .before .before .before .before .before .before .before .args in
+    let m = c .before .before .before .before .before .before .before .before .before .before .before .before .entry-count in
+    let n = c .before .before .before .before .before .before .before .before .before .before .before .request-count in
+    c .loop .inv .0 (rival (now (a .blocks)) (now (a .held)) (now (a .marks))) (rw (c .before .before .before .before .before .before .before .begin .ensures) (begins (a .setup) (rival (now (a .blocks)) (now (a .held)) (now (a .marks))) (now (a .entries)) (now (a .requests)) (m .result) (n .result) (m .ensures) (n .ensures)))
+
+request-at-requires : tie.Need-request-at-requires Inv-loop μ-loop
+request-at-requires c κs =
+    let a = c .before .before .before .before .before .before .before .before .before .before .before .before .before .before .before .before .before .before .before .before .args in
+    let l = c .before .before .loop in
+    request-within (a .setup) (rival (now (a .blocks)) (now (a .held)) (now (a .marks))) (now (a .entries)) (now (a .requests)) (stage (l .p) (l .blocks) (l .held) (l .marks)) (here (c .before .before)) (c .before .loop-test .taken) (c .if1 .taken)
+
+complete-requires : tie.Need-complete-requires Inv-loop μ-loop
+complete-requires c κs =
+    let a = c .before .before .before .before .before .before .before .before .before .before .before .before .before .before .before .before .before .before .before .before .before .before .before .before .args in
+    let l = c .before .before .before .before .before .before .loop in
+    due (a .setup) (rival (now (a .blocks)) (now (a .held)) (now (a .marks))) (entriesOf (now (a .entries))) (requestsOf (now (a .requests))) (stage (l .p) (l .blocks) (l .held) (l .marks)) (here (c .before .before .before .before .before .before)) (c .before .before .before .before .before .loop-test .taken) (c .before .before .before .before .if1 .taken)
+
+loop-less : tie.Need-loop-less Inv-loop μ-loop
+loop-less c =
+    let a = c .before .before .before .before .before .before .before .before .before .before .before .before .before .before .before .before .before .before .before .before .before .before .before .before .before .before .before .before .before .before .before .args in
+    let l = c .before .before .before .before .before .before .before .before .before .before .before .before .before .loop in
+    completes-falls (a .setup) (rival (now (a .blocks)) (now (a .held)) (now (a .marks))) (now (a .entries)) (now (a .requests)) (stage (l .p) (l .blocks) (l .held) (l .marks)) (here (c .before .before .before .before .before .before .before .before .before .before .before .before .before)) (c .before .before .before .before .before .before .before .before .before .before .before .before .loop-test .taken) (c .before .before .before .before .before .before .before .before .before .before .before .if1 .taken) (c .before .before .before .before .before .before .before .before .before .before .request-at .result) (c .before .before .before .before .before .before .before .before .before .before .request-at .ensures) _ (c .before .before .before .before .before .before .complete .ensures)
+
+loop-again : tie.Need-loop-again Inv-loop μ-loop
+loop-again c =
+    let a = c .before .before .before .before .before .before .before .before .before .before .before .before .before .before .before .before .before .before .before .before .before .before .before .before .before .before .before .before .before .before .before .args in
+    let l = c .before .before .before .before .before .before .before .before .before .before .before .before .before .loop in
+    (λ r i. completes (a .setup) r (now (a .entries)) (now (a .requests)) (stage (l .p) (l .blocks) (l .held) (l .marks)) (l .inv .0 r i) (c .before .before .before .before .before .before .before .before .before .before .before .before .loop-test .taken) (c .before .before .before .before .before .before .before .before .before .before .before .if1 .taken) (c .before .before .before .before .before .before .before .before .before .before .request-at .result) (c .before .before .before .before .before .before .before .before .before .before .request-at .ensures) _ (c .before .before .before .before .before .before .complete .ensures), search needs, search needs, search needs)
+
+entry-at-requires : tie.Need-entry-at-requires Inv-loop μ-loop
+entry-at-requires c κs =
+    let a = c .before .before .before .before .before .before .before .before .before .before .before .before .before .before .before .before .before .before .before .before .args in
+    let l = c .before .before .loop in
+    entry-within (a .setup) (rival (now (a .blocks)) (now (a .held)) (now (a .marks))) (now (a .entries)) (now (a .requests)) (stage (l .p) (l .blocks) (l .held) (l .marks)) (here (c .before .before)) (c .before .loop-test .taken) (c .if1 .left)
+
+take-requires : tie.Need-take-requires Inv-loop μ-loop
+take-requires c κs =
+    here (c .before .before .before .before .before .before) .goes (c .before .before .before .before .before .loop-test .taken) .ready
+
+loop-less-2 : tie.Need-loop-less-2 Inv-loop μ-loop
+loop-less-2 c =
+    let a = c .before .before .before .before .before .before .before .before .before .before .before .before .before .before .before .before .before .before .before .before .before .before .before .before .before .before .before .before .before .before .before .args in
+    let l = c .before .before .before .before .before .before .before .before .before .before .before .before .before .loop in
+    takes-falls (a .setup) (rival (now (a .blocks)) (now (a .held)) (now (a .marks))) (now (a .entries)) (now (a .requests)) (stage (l .p) (l .blocks) (l .held) (l .marks)) (here (c .before .before .before .before .before .before .before .before .before .before .before .before .before)) (c .before .before .before .before .before .before .before .before .before .before .before .before .loop-test .taken) (c .before .before .before .before .before .before .before .before .before .before .before .if1 .left) (c .before .before .before .before .before .before .before .before .before .before .entry-at .result) (c .before .before .before .before .before .before .before .before .before .before .entry-at .ensures) _ (c .before .before .before .before .before .before .take .ensures)
+
+loop-again-2 : tie.Need-loop-again-2 Inv-loop μ-loop
+loop-again-2 c =
+    let a = c .before .before .before .before .before .before .before .before .before .before .before .before .before .before .before .before .before .before .before .before .before .before .before .before .before .before .before .before .before .before .before .args in
+    let l = c .before .before .before .before .before .before .before .before .before .before .before .before .before .loop in
+    (λ r i. takes (a .setup) r (now (a .entries)) (now (a .requests)) (stage (l .p) (l .blocks) (l .held) (l .marks)) (l .inv .0 r i) (c .before .before .before .before .before .before .before .before .before .before .before .before .loop-test .taken) (c .before .before .before .before .before .before .before .before .before .before .before .if1 .left) (c .before .before .before .before .before .before .before .before .before .before .entry-at .result) (c .before .before .before .before .before .before .before .before .before .before .entry-at .ensures) _ (c .before .before .before .before .before .before .take .ensures), search needs, search needs, search needs)
+
+returns : tie.Need-returns Inv-loop μ-loop
+returns c =
+    let a = c .before .before .before .before .before .before .before .before .before .before .before .before .before .before .before .before .before .before .before .args in
+    let l = c .before .loop in
+    inv-end (a .setup) (rival (now (a .blocks)) (now (a .held)) (now (a .marks))) (entriesOf (now (a .entries))) (requestsOf (now (a .requests))) (stage (l .p) (l .blocks) (l .held) (l .marks)) (here (c .before)) (c .loop-test .left)
+
+pub price-spec : {M : Type 1} → statement M
+price-spec =
+    tie.close
+    (tie.spec
+    Inv-loop
+    μ-loop
+    (λ c κs. search needs)
+    (λ c κs. search needs)
+    (λ c κs. search needs)
+    loop-holds
+    request-at-requires
+    complete-requires
+    loop-less
+    loop-again
+    entry-at-requires
+    take-requires
+    loop-less-2
+    loop-again-2
+    (λ c. search needs)
+    (λ c. search needs)
+    (λ c. search needs)
+    returns)

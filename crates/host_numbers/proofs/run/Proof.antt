@@ -1,0 +1,114 @@
+use borrow.Author.Needs.{needs}
+use mathlib.Core.Path.{_≡_, refl, ap, _∙_}
+use denote.Ref.{now}
+use native.Mathlib.Omega.{arith}
+use lib.ListN.{length}
+use Rattle.protocol.specs.Tables.{tables}
+use Rattle.protocol.specs.Runs.{run as ran}
+use Rattle.protocol.specs.declared.Account.{Account}
+use Rattle.run_steps.specs.Steps.{stage}
+use Rattle.run.specs.Outcomes.{grown, outcome}
+use Rattle.run.proofs.Loop.{Inv, μ, inv-count, inv-room, inv-end}
+use Rattle.host_decoding.specs.Records.{requestsOf}
+use Rattle.host_numbers.proofs.Runs.{begins, within, turns, falls}
+use Rattle.host_numbers.proofs.run.Statement.{statement}
+use Rattle.host_numbers.proofs.run.Tie as tie
+use Rattle.host_numbers.proofs.run.Reads as reads
+use Rattle.host_numbers.proofs.run.Lts as lts
+use Rattle.host_numbers.proofs.account_of.Reads as account-of-reads
+use Rattle.host_decoding.proofs.request_at.Reads as request-at-reads
+use Rattle.host_decoding.proofs.request_count.Reads as request-count-reads
+use Rattle.run.proofs.counted.Reads as counted-reads
+use Rattle.run.proofs.growth.Reads as growth-reads
+use Rattle.run_steps.proofs.begin.Reads as begin-reads
+use Rattle.run_steps.proofs.turn.Reads as turn-reads
+
+abbrev Inv-loop : tie.InvT-loop
+Inv-loop setup blocks₀ counters₀ marks₀ words₀ memory₀ requests values₀ start count p₀ blocks counters marks words memory values p =
+    Inv setup (tables blocks₀ counters₀ marks₀ words₀ memory₀) start (requestsOf requests) values₀ (stage p blocks counters marks words memory values)
+    × (length blocks ≡ length blocks₀) × (length counters ≡ length counters₀) × (length marks ≡ length marks₀) × (length words ≡ length words₀) × (length memory ≡ length memory₀) × (length values ≡ length values₀)
+
+abbrev μ-loop : tie.MeasureT-loop
+μ-loop setup blocks₀ counters₀ marks₀ words₀ memory₀ requests values₀ start count p₀ blocks counters marks words memory values p =
+    μ setup (tables blocks₀ counters₀ marks₀ words₀ memory₀) start (requestsOf requests) values₀ (stage p blocks counters marks words memory values)
+
+loop-holds : tie.Need-loop-holds Inv-loop μ-loop
+loop-holds c =
+    let a = c .before .before .before .before .before .before .before .before .before .before .before .before .before .before .before .before .args in
+    let k = c .before .before .before .before .before .before .before .before .account-of in
+    let n = c .before .before .before .before .before .before .before .request-count in
+    (rw (c .begin .ensures) (begins (a .setup) (tables (now (a .blocks)) (now (a .counters)) (now (a .marks)) (now (a .words)) (now (a .memory))) (k .result) (now (a .requests)) (now (a .values)) (k .ensures .1) (n .result) (n .ensures)), refl, refl, refl, refl, refl, refl)
+
+request-at-requires : tie.Need-request-at-requires Inv-loop μ-loop
+request-at-requires c κs =
+    let a = c .before .before .before .before .before .before .before .before .before .before .before .before .before .before .before .before .before .before .args in
+    let k = c .before .before .before .before .before .before .before .before .before .before .account-of in
+    let l = c .before .loop in
+    omega (arith, within (a .setup) (tables (now (a .blocks)) (now (a .counters)) (now (a .marks)) (now (a .words)) (now (a .memory))) (k .result) (now (a .requests)) (now (a .values)) (stage (l .p) (l .blocks) (l .counters) (l .marks) (l .words) (l .memory) (l .values)) (l .inv .0) (c .loop-test .taken))
+
+turn-requires : tie.Need-turn-requires Inv-loop μ-loop
+turn-requires c κs =
+    c .before .before .before .before .before .before .before .before .loop .inv .0 .goes (c .before .before .before .before .before .before .before .loop-test .taken) .ready
+
+loop-less : tie.Need-loop-less Inv-loop μ-loop
+loop-less c =
+    let a = c .before .before .before .before .before .before .before .before .before .before .before .before .before .before .before .before .before .before .before .before .before .before .before .before .before .before .before .before .before .before .before .before .before .before .before .before .before .before .args in
+    let k = c .before .before .before .before .before .before .before .before .before .before .before .before .before .before .before .before .before .before .before .before .before .before .before .before .before .before .before .before .before .before .account-of in
+    let l = c .before .before .before .before .before .before .before .before .before .before .before .before .before .before .before .before .before .before .before .before .before .loop in
+    falls (a .setup) (tables (now (a .blocks)) (now (a .counters)) (now (a .marks)) (now (a .words)) (now (a .memory))) (k .result) (now (a .requests)) (now (a .values)) (stage (l .p) (l .blocks) (l .counters) (l .marks) (l .words) (l .memory) (l .values)) (l .inv .0) (c .before .before .before .before .before .before .before .before .before .before .before .before .before .before .before .before .before .before .before .before .loop-test .taken) (c .before .before .before .before .before .before .before .before .before .before .before .before .before .before .before .before .before .before .before .request-at .result) (c .before .before .before .before .before .before .before .before .before .before .before .before .before .before .before .before .before .before .before .request-at .ensures) _ (c .before .before .before .before .before .before .before .before .before .before .before .before .turn .ensures)
+
+loop-again : tie.Need-loop-again Inv-loop μ-loop
+loop-again c =
+    let a = c .before .before .before .before .before .before .before .before .before .before .before .before .before .before .before .before .before .before .before .before .before .before .before .before .before .before .before .before .before .before .before .before .before .before .before .before .before .before .args in
+    let k = c .before .before .before .before .before .before .before .before .before .before .before .before .before .before .before .before .before .before .before .before .before .before .before .before .before .before .before .before .before .before .account-of in
+    let l = c .before .before .before .before .before .before .before .before .before .before .before .before .before .before .before .before .before .before .before .before .before .loop in
+    (turns (a .setup) (tables (now (a .blocks)) (now (a .counters)) (now (a .marks)) (now (a .words)) (now (a .memory))) (k .result) (now (a .requests)) (now (a .values)) (stage (l .p) (l .blocks) (l .counters) (l .marks) (l .words) (l .memory) (l .values)) (l .inv .0) (c .before .before .before .before .before .before .before .before .before .before .before .before .before .before .before .before .before .before .before .before .loop-test .taken) (c .before .before .before .before .before .before .before .before .before .before .before .before .before .before .before .before .before .before .before .request-at .result) (c .before .before .before .before .before .before .before .before .before .before .before .before .before .before .before .before .before .before .before .request-at .ensures) _ (c .before .before .before .before .before .before .before .before .before .before .before .before .turn .ensures), search needs, search needs, search needs, search needs, search needs, search needs)
+
+growth-requires : tie.Need-growth-requires Inv-loop μ-loop
+growth-requires c κs =
+    let a = c .before .before .before .before .before .before .before .before .before .before .before .before .before .before .before .before .before .before .before .args in
+    let k = c .before .before .before .before .before .before .before .before .before .before .before .account-of in
+    let l = c .before .before .loop in
+    inv-count (a .setup) (tables (now (a .blocks)) (now (a .counters)) (now (a .marks)) (now (a .words)) (now (a .memory))) (k .result) (requestsOf (now (a .requests))) (now (a .values)) (stage (l .p) (l .blocks) (l .counters) (l .marks) (l .words) (l .memory) (l .values)) (l .inv .0)
+
+counted-requires : tie.Need-counted-requires Inv-loop μ-loop
+counted-requires c κs =
+    let a = c .before .before .before .before .before .before .before .before .before .before .before .before .before .before .before .before .before .before .before .before .args in
+    let k = c .before .before .before .before .before .before .before .before .before .before .before .before .account-of in
+    let l = c .before .before .before .loop in
+    rw (c .growth .ensures) (inv-room (a .setup) (tables (now (a .blocks)) (now (a .counters)) (now (a .marks)) (now (a .words)) (now (a .memory))) (k .result) (requestsOf (now (a .requests))) (now (a .values)) (stage (l .p) (l .blocks) (l .counters) (l .marks) (l .words) (l .memory) (l .values)) (l .inv .0))
+
+returns : tie.Need-returns Inv-loop μ-loop
+returns c =
+    let a = c .before .before .before .before .before .before .before .before .before .before .before .before .before .before .before .before .before .before .before .before .before .args in
+    let k = c .before .before .before .before .before .before .before .before .before .before .before .before .before .account-of in
+    let l = c .before .before .before .before .loop in
+    let T = tables (now (a .blocks)) (now (a .counters)) (now (a .marks)) (now (a .words)) (now (a .memory)) in
+    let x = stage (l .p) (l .blocks) (l .counters) (l .marks) (l .words) (l .memory) (l .values) in
+    ap (λ (g : Account). outcome (l .p .answer) (x .tables) g (l .values)) (c .counted .ensures ∙ ap (grown (k .result)) (c .before .growth .ensures))
+    ∙ inv-end (a .setup) T (k .result) (requestsOf (now (a .requests))) (now (a .values)) x (l .inv .0) (c .before .before .before .loop-test .left)
+    ∙ ap (λ (g : Account). ran (a .setup) T g (requestsOf (now (a .requests))) (now (a .values))) (k .ensures .0)
+
+pub run-spec : {M : Type 1} → statement M
+run-spec =
+    tie.close
+    (tie.spec
+    Inv-loop
+    μ-loop
+    (λ c κs. search needs)
+    (λ c κs. search needs)
+    (λ c κs. search needs)
+    loop-holds
+    request-at-requires
+    turn-requires
+    loop-less
+    loop-again
+    growth-requires
+    counted-requires
+    (λ c. search needs)
+    (λ c. search needs)
+    (λ c. search needs)
+    (λ c. search needs)
+    (λ c. search needs)
+    (λ c. search needs)
+    returns)

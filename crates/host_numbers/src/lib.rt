@@ -1,0 +1,115 @@
+// A run and a schedule's price over plain numbers: requests and entries are decoded as they are reached.
+use protocol::Account;
+use protocol::PriceAnswer;
+use protocol::RunAnswer;
+use protocol::Setup;
+ghost use mathlib.Core.Path.{_≡_};
+ghost use Rattle.protocol.specs.Tables.{tables};
+ghost use Rattle.protocol.specs.Runs.{run as ran};
+ghost use Rattle.protocol.specs.Rival.{rival};
+ghost use Rattle.protocol.specs.Pricer.{price as priced, priceTables};
+ghost use Rattle.protocol.specs.Accounts.{nothing};
+ghost use Rattle.run_steps.specs.Steps.{Room};
+ghost use Rattle.run.specs.Outcomes.{outcome};
+ghost use Rattle.host_decoding.specs.Records.{requestsOf, entriesOf};
+ghost use Rattle.host_numbers.specs.Numbers.{accountOf};
+
+// What a run answers, and the account after it.
+pub struct Ran {
+    pub answer: RunAnswer,
+    pub account: Account,
+}
+
+// An account of these numbers. That they are below 2^32 is said too: a run's sums fit because of it.
+fn account_of(requests: u32, fetch: u32, write_back: u32, update: u32) -> Account
+    ensures { λ r. ⌜ (r ≡ accountOf requests fetch «write_back» update) × Room r 0 nothing ⌝ }
+{
+    Account {
+        requests: requests,
+        fetch: fetch,
+        write_back: write_back,
+        update: update,
+    }
+}
+
+// A run: the requests in turn, to the first refused one.
+pub fn run(
+    setup: Setup,
+    blocks: &mut [u32],
+    counters: &mut [u32],
+    marks: &mut [u32],
+    words: &mut [u32],
+    memory: &mut [u32],
+    account: Account,
+    requests: &[u32],
+    values: &mut [u32],
+) -> Ran
+    ensures { λ r. ⌜ outcome (r .answer) (tables (now (blocks .exit)) (now (counters .exit)) (now (marks .exit)) (now (words .exit)) (now (memory .exit))) (r .account) (now (values .exit))
+        ≡ ran setup (tables (now (blocks .entry)) (now (counters .entry)) (now (marks .entry)) (now (words .entry)) (now (memory .entry))) account (requestsOf (now (requests .entry))) (now (values .entry)) ⌝ }
+{
+    let start = account_of(
+        account.requests,
+        account.fetch,
+        account.write_back,
+        account.update,
+    );
+    let count = host_decoding::request_count(requests);
+    let mut p = run_steps::begin(
+        setup,
+        &*blocks,
+        &*counters,
+        &*marks,
+        &*words,
+        &*memory,
+        &*values,
+        start,
+        count,
+    );
+    while p.going {
+        let request = host_decoding::request_at(requests, p.answer.taken);
+        p = run_steps::turn(
+            setup,
+            blocks,
+            counters,
+            marks,
+            words,
+            memory,
+            values,
+            p,
+            request,
+        );
+    }
+    let answer = p.answer;
+    let after = run::counted(start, run::growth(p));
+    Ran {
+        answer: answer,
+        account: after,
+    }
+}
+
+// The price of a schedule for the requests: played entry by entry from empty caches, to the first refused one.
+pub fn price(
+    setup: Setup,
+    blocks: &mut [u32],
+    held: &mut [u32],
+    marks: &mut [u32],
+    entries: &[u32],
+    requests: &[u32],
+) -> PriceAnswer
+    ensures { λ r. ⌜ (r ≡ priced setup (rival (now (blocks .entry)) (now (held .entry)) (now (marks .entry))) (requestsOf (now (requests .entry))) (entriesOf (now (entries .entry))))
+        × (rival (now (blocks .exit)) (now (held .exit)) (now (marks .exit)) ≡ priceTables setup (rival (now (blocks .entry)) (now (held .entry)) (now (marks .entry))) (requestsOf (now (requests .entry))) (entriesOf (now (entries .entry)))) ⌝ }
+{
+    let entry_count = host_decoding::entry_count(entries);
+    let request_count = host_decoding::request_count(requests);
+    let mut p = rival_schedule::begin(setup, blocks, held, marks, entry_count, request_count);
+    while p.going {
+        if p.completing {
+            let request = host_decoding::request_at(requests, p.next);
+            p = rival_schedule::complete(setup, blocks, held, marks, p, request);
+        } else {
+            let entry = host_decoding::entry_at(entries, p.at);
+            p = rival_schedule::take(setup, blocks, held, marks, p, entry);
+        }
+    }
+    p.answer
+}

@@ -1,0 +1,31 @@
+// The price of a rival's schedule for a list of requests.
+use protocol::Entry;
+use protocol::PriceAnswer;
+use protocol::Request;
+use protocol::Setup;
+ghost use mathlib.Core.Path.{_≡_};
+ghost use Rattle.protocol.specs.Rival.{rival};
+ghost use Rattle.protocol.specs.Pricer.{price as priced, priceTables};
+
+// The schedule is played entry by entry from empty caches, to the first refused one.
+pub fn price(
+    setup: Setup,
+    blocks: &mut [u32],
+    held: &mut [u32],
+    marks: &mut [u32],
+    entries: &[Entry],
+    requests: &[Request],
+) -> PriceAnswer
+    ensures { λ r. ⌜ (r ≡ priced setup (rival (now (blocks .entry)) (now (held .entry)) (now (marks .entry))) (now (requests .entry)) (now (entries .entry)))
+        × (rival (now (blocks .exit)) (now (held .exit)) (now (marks .exit)) ≡ priceTables setup (rival (now (blocks .entry)) (now (held .entry)) (now (marks .entry))) (now (requests .entry)) (now (entries .entry))) ⌝ }
+{
+    let mut p = rival_schedule::begin(setup, blocks, held, marks, entries.len(), requests.len());
+    while p.going {
+        if p.completing {
+            p = rival_schedule::complete(setup, blocks, held, marks, p, requests[p.next]);
+        } else {
+            p = rival_schedule::take(setup, blocks, held, marks, p, entries[p.at]);
+        }
+    }
+    p.answer
+}

@@ -1,0 +1,10 @@
+-- The fields, one by one.
+use mathlib.Core.Path.{refl}
+use Rattle.rival_pricing.proofs.stopped.Statement.{statement}
+use Rattle.rival_pricing.proofs.stopped.Tie as tie
+
+returns : tie.Need-returns
+returns c = refl
+
+pub stopped-spec : {M : Type 1} → statement M
+stopped-spec = tie.close (tie.spec returns)

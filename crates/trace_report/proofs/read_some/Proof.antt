@@ -1,0 +1,20 @@
+use borrow.Author.Needs.{needs}
+use Rattle.trace_report.proofs.read_some.Statement.{statement}
+use Rattle.trace_report.proofs.read_some.Tie as tie
+
+returns : tie.Need-returns
+returns c = record { got = _; is = c .before .before .before .before .before .before .before .before .before .before .count-read .ensures }
+
+pub read-some-spec : {M : Type 1} → statement M
+read-some-spec =
+    tie.close
+    (tie.spec
+    (λ c κs. search needs)
+    (λ c κs. search needs)
+    (λ c. search needs)
+    (λ c. search needs)
+    (λ c. search needs)
+    (λ c. search needs)
+    (λ c. search needs)
+    (λ c. search needs)
+    returns)

@@ -1,0 +1,24 @@
+use mathlib.Core.Path.{refl}
+use Rattle.protocol.specs.Board.{slots}
+use Rattle.protocol.specs.Tables.{fresh}
+use Rattle.trace_lines.specs.Trace.{traceSetup}
+use borrow.Author.Needs.{needs}
+use Rattle.trace_report.proofs.run.Statement.{statement}
+use Rattle.trace_report.proofs.run.Tie as tie
+
+read-report-requires : tie.Need-read-report-requires
+unfolding fresh traceSetup slots
+read-report-requires c κs = refl
+
+pub run-spec : {M : Type 1} → statement M
+run-spec =
+    tie.close
+    (tie.spec
+    (λ c. search needs)
+    (λ c. search needs)
+    (λ c. search needs)
+    (λ c. search needs)
+    (λ c. search needs)
+    read-report-requires
+    (λ c κs. search needs)
+    (λ c. search needs))

@@ -1,0 +1,81 @@
+// The text of a report, written into a lent buffer.
+ghost use mathlib.Core.Path.{_≡_};
+ghost use Prim.Native.Nat.{_+_, _≤_};
+ghost use lib.ListN.{length, take};
+ghost use Rattle.io.specs.Counts.{Counts};
+ghost use Rattle.trace_text.specs.Text.{decimal, field, line, total, accountLines, text, Appended};
+use protocol::Account;
+use trace_lines::Report;
+
+// Puts bytes into the buffer from `at` on, and answers where they end.
+fn put(bytes: &[u8], out: &mut [u8; 192], at: usize) -> usize
+    requires { ⌜ at + length (now bytes) ≤ 192 ⌝ }
+    ensures { λ r. ⌜ Appended (now (out .entry)) at (now (bytes .entry)) (now (out .exit)) r (length (now (bytes .entry))) ⌝ }
+{
+    let all: &mut [u8] = out;
+    let mut i = 0;
+    while i < bytes.len() {
+        all[at + i] = bytes[i];
+        i += 1;
+    }
+    at + i
+}
+
+// A number.
+fn put_number(number: u64, out: &mut [u8; 192], at: usize) -> usize
+    requires { ⌜ at + 20 ≤ 192 ⌝ }
+    ensures { λ r. ⌜ Appended (now (out .entry)) at (decimal number) (now (out .exit)) r 20 ⌝ }
+{
+    let mut digits = [0u8; 20];
+    let count = io::decimal(number, &mut digits);
+    put(&digits[..count], out, at)
+}
+
+// A word and a number.
+fn put_field(word: &[u8], number: u64, out: &mut [u8; 192], at: usize) -> usize
+    requires { ⌜ at + (length (now word) + 21) ≤ 192 ⌝ }
+    ensures { λ r. ⌜ Appended (now (out .entry)) at (field (now (word .entry)) number) (now (out .exit)) r (length (now (word .entry)) + 21) ⌝ }
+{
+    let named = put(word, out, at);
+    let parted = put(b" ", out, named);
+    put_number(number, out, parted)
+}
+
+// A line of a word and a number.
+fn put_line(word: &[u8], number: u64, out: &mut [u8; 192], at: usize) -> usize
+    requires { ⌜ at + (length (now word) + 22) ≤ 192 ⌝ }
+    ensures { λ r. ⌜ Appended (now (out .entry)) at (line (now (word .entry)) number) (now (out .exit)) r (length (now (word .entry)) + 22) ⌝ }
+{
+    let end = put_field(word, number, out, at);
+    put(b"\n", out, end)
+}
+
+// The cycles of each kind, summed where the sum of three u32 fits.
+fn cycles(account: Account) -> u64
+    ensures { λ r. ⌜ r ≡ total account ⌝ }
+{
+    account.fetch as u64 + account.write_back as u64 + account.update as u64
+}
+
+// The five lines of an account, from the start.
+fn put_account(account: Account, out: &mut [u8; 192]) -> usize
+    ensures { λ r. ⌜ Appended (now (out .entry)) 0 (accountLines account) (now (out .exit)) r 144 ⌝ }
+{
+    let requests = put_line(b"requests", account.requests as u64, out, 0);
+    let fetch = put_line(b"fetch", account.fetch as u64, out, requests);
+    let write_back = put_line(b"write-back", account.write_back as u64, out, fetch);
+    let update = put_line(b"update", account.update as u64, out, write_back);
+    put_line(b"total", cycles(account), out, update)
+}
+
+// Writes the six lines at the start of the buffer, and answers how many bytes they are. With 20
+// digits to a number they would fill it.
+pub fn render(report: Report, out: &mut [u8; 192]) -> usize
+    ensures { λ r. ⌜ Counts r (now (out .exit)) ⌝ }
+    ensures { λ r. ⌜ take r (now (out .exit)) ≡ text report ⌝ }
+{
+    let account = report.account;
+    let total = put_account(account, out);
+    let refusal = put_field(b"ended", report.refusal as u64, out, total);
+    put_line(b"", report.line as u64, out, refusal)
+}
