@@ -16,7 +16,7 @@ class Callee:
         self.slices = [n for n, k in params if k == 'slice']
         self.plain = [(n, k) for n, k in params if k != 'slice']
         self.key = '#%s·%s' % (crate, self.F)
-        self.calls = 'code.calls-%s·%s' % (crate, self.F)
+        self.calls = 'code.calls-%s·%s' % (crate.replace('_', '-'), self.F)
 
     def uses(self):
         """What the walk imports of it, beside the file."""
@@ -181,7 +181,7 @@ class Plain:
         self.__dict__.update({k: v for k, v in locals().items() if k != 'self'})
         self.F = dashed(name)
         self.key = '#%s·%s' % (crate, self.F)
-        self.calls = 'code.calls-%s·%s' % (crate, self.F)
+        self.calls = 'code.calls-%s·%s' % (crate.replace('_', '-'), self.F)
 
     uses = Callee.uses
 

@@ -19,7 +19,7 @@ class Charge:
         self.__dict__.update({k: v for k, v in locals().items() if k != 'self'})
         self.F = dashed(name)
         self.key = '#%s·%s' % (crate, self.F)
-        self.calls = 'code.calls-%s·%s' % (crate, self.F)
+        self.calls = 'code.calls-%s·%s' % (crate.replace('_', '-'), self.F)
         self.here = crate
 
     def uses(self):

@@ -8,27 +8,29 @@ use native.Mathlib.Omega.{arith}
 use native.Mathlib.Nat.{le-refl}
 use lib.ListN.{set}
 use lib.Dec.{ltb, eqb}
-use borrow.Author.Tests.{ltb-true, eqb-true, eq-eqb}
+use borrow.Author.Tests.{eqb-true, eq-eqb}
 use Rattle.protocol.specs.Lists.{at}
 use Rattle.protocol.specs.Refusals.{noRefusal, lineInUse, blockNotHeld, dropOfMarked}
-use Rattle.protocol.specs.Board.{Fits, slots, slot, offsetOf, fetchPrice}
-use Rattle.protocol.specs.Tables.{Tables, Sized, counter, block, holdsAt, holds, marked}
+use Rattle.protocol.specs.Board.{Fits, slots, slot, blockOf, offsetOf, fetchPrice}
+use Rattle.protocol.specs.Tables.{Tables, Sized, counter, block, holdsAt, holds, sharing, marked}
 use Rattle.protocol.specs.Soundness.{Sound}
 use Rattle.protocol.specs.Rules.{writtenBack, emptied, filled, saved, evicted, owner, released, fetched, obtained, payer, writtenAlone, broadcast, charged, written}
-use Rattle.protocol.specs.Requests.{served, target, isWrite, variableOf, newValue, Valid}
-use Rattle.protocol.specs.Rival.{Rival, RivalSized, keepsAt, keeps, shared, rivalFetched, rivalWrittenBack, rivalDropped, rivalCompleted, completionCycles, Legal, costs}
+use Rattle.protocol.specs.Requests.{servedBy, served, Named}
+use Rattle.protocol.specs.Rival.{Rival, RivalSized, keepsAt, keeps, shared, rivalFetched, rivalWrittenBack, rivalDropped, rivalCompleted, completionBy, completionCycles, Legal, costs}
 use Rattle.protocol.specs.declared.Setup.{Setup}
+use Rattle.protocol.specs.declared.Variable.{Variable}
 use Rattle.protocol.specs.declared.Block.{Block}
 use Rattle.protocol.specs.declared.Request.{Request}
+use Rattle.protocol.specs.declared.Operation.{Operation}
+use Rattle.protocol.specs.declared.Operation.the-variants.{Read, Write}
 use Rattle.protocol.specs.declared.Bill.{Bill}
 use Rattle.protocol.specs.declared.Entry.{Entry}
 use Rattle.protocol.specs.declared.Entry.the-variants.{Fetch, WriteBack, Drop, Complete, CompleteByBroadcast}
-use Rattle.protocol.proofs.Laws.{Known, sure, not-so, known, choice, chosen-zero, agree, both-true, and-true, other-some, at-set-same, at-set-other}
-use Rattle.protocol.proofs.Board.{block-path, block-number, slot-lt, slot-inj, offset-lt}
-use Rattle.protocol.proofs.Holding.{holdsAt-false, holder-slot, payer-found}
+use Rattle.protocol.proofs.Laws.{Known, sure, not-so, known, choice, chosen-zero, agree, both-true, and-true, other-some, at-set-same, at-set-other, at-set-zero}
+use Rattle.protocol.proofs.Board.{block-path, block-number, slot-lt, slot-inj, offset-lt, block-lt}
+use Rattle.protocol.proofs.Holding.{holdsAt-false, holder-slot, payer-below, payer-found}
 use Rattle.protocol.proofs.Lengths.{block-stored, counter-stored, sized-evicted, sized-released, sized-broadcast}
-use Rattle.protocol.proofs.Requests.{target-lt}
-use Rattle.protocol.proofs.Rival.{move-legal, completion-legal, sized-played}
+use Rattle.protocol.proofs.Rival.{move-legal, Ready, Completion, completion-legal, sized-played}
 use Rattle.competitive.proofs.Sums.{sum, sum-one}
 use Rattle.competitive.proofs.StepSound.{sound-obtained, obtained-holds, sound-served}
 use Rattle.competitive.proofs.Potential.{Potential}
@@ -66,6 +68,10 @@ unfolding evicted emptied saved writtenBack
 evicted-block s t k m d =
     at-set-other (saved s t k .blocks) k 0 m d
     ∙ ap (λ l. at l m) (agree (λ (z : Tables). z .blocks) (marked t k) {x = writtenBack s t k} {y = t} refl)
+
+pub evicted-zero : (s : Setup) (t : Tables) (k : ℕ) → counter (evicted s t k) k ≡ 0
+unfolding evicted emptied
+evicted-zero s t k = at-set-zero (saved s t k .counters) k
 
 -- the engine's slots after a fetch into k
 module _ (s : Setup) (t : Tables) (z : Sized s t) (k : ℕ) (b : Block) (h : k < slots s) where
@@ -141,12 +147,14 @@ obtainedCharge F W s t i b = cond (holds s t i b) 0 (F + cond (marked t (slot s 
 
 -- U for an update
 unfoldable pub writtenCharge : ℕ → Setup → Tables → ℕ → Block → ℕ
-writtenCharge U s t i b = cond (ltb (payer s t i b) (s .processors)) U 0
+writtenCharge U s t i b = cond (sharing s t i b) U 0
+
+abbrev pub chargeBy : ℕ → ℕ → ℕ → Setup → Tables → ℕ → Operation → ℕ
+chargeBy F W U s t i (Read v) = obtainedCharge F W s t i (blockOf s v)
+chargeBy F W U s t i (Write v x) = obtainedCharge F W s t i (blockOf s v) + writtenCharge U s (obtained s t i (blockOf s v)) i (blockOf s v)
 
 unfoldable pub charge : ℕ → ℕ → ℕ → Setup → Tables → Request → ℕ
-charge F W U s t q =
-    obtainedCharge F W s t (q .processor) (target s q)
-    + cond (isWrite q) (writtenCharge U s (obtained s t (q .processor) (target s q)) (q .processor) (target s q)) 0
+charge F W U s t q = chargeBy F W U s t (q .processor) (q .operation)
 
 abbrev pub charges : ℕ → ℕ → ℕ → Setup → Tables → List Request → ℕ
 charges F W U s t [] = 0
@@ -268,13 +276,14 @@ module _ (s : Setup) (ok : Fits s) (F W U : ℕ) (ψ : ℕ → ℕ → ℕ → �
     unfolding writtenAlone
     alone-case = omega (arith, refilled t sd r i b hi kp (writtenAlone s t (slot s i b) o x) e refl refl)
 
-    shared-case : payer s t i b < s .processors → (shared s r i b ≡ true → 1 ≤ u)
+    shared-case : sharing s t i b ≡ true → (shared s r i b ≡ true → 1 ≤ u)
         → total ψ s (charged s (broadcast s t (slot s i b) b o x) (slot s (payer s t i b) b)) r + U ≤ total ψ s t r + u
     unfolding broadcast
-    shared-case l hu =
+    shared-case c hu =
+        let l = payer-below s t i b c in
         let t′ : Tables = broadcast s t (slot s i b) b o x in
         let j : ℕ = payer s t i b in
-        let a = payer-found s t i b l in
+        let a = payer-found s t i b c in
         let hj = holder-slot s t j b (a .passes) in
         let d : slot s j b ≢ slot s i b = λ y. a .differs (slot-inj s ok j i b b y) in
         let ec : counter t′ (slot s j b) ≡ counter t (slot s j b) = at-set-other (t .counters) (slot s i b) (fetchPrice s) (slot s j b) d in
@@ -286,55 +295,40 @@ module _ (s : Setup) (ok : Fits s) (F W U : ℕ) (ψ : ℕ → ℕ → ℕ → �
     pub written-bound : (o x u : ℕ) → o < s .words → holds s t i b ≡ true → (shared s r i b ≡ true → 1 ≤ u)
         → total ψ s (written s t i b o x) r + writtenCharge U s t i b ≤ total ψ s t r + u
     unfolding written writtenCharge
-    written-bound o x u ho e hu = go (ltb (payer s t i b) (s .processors)) refl
+    written-bound o x u ho e hu = go (sharing s t i b) refl
       where
         k : ℕ
         k = slot s i b
 
-        go : (c : Bool) → ltb (payer s t i b) (s .processors) ≡ c
+        go : (c : Bool) → sharing s t i b ≡ c
             → total ψ s (cond c (charged s (broadcast s t k b o x) (slot s (payer s t i b) b)) (writtenAlone s t k o x)) r + cond c U 0
             ≤ total ψ s t r + u
-        go true c = shared-case t sd r i b hi kp o x u e (ltb-true _ _ c) hu
+        go true c = shared-case t sd r i b hi kp o x u e c hu
         go false c = alone-case t sd r i b hi kp o x u e
 
-  -- one request, completed by the rival too
-  served-bound : (t : Tables) (sd : Sound s t) (r : Rival) (q : Request) → Valid s q → keeps s r (q .processor) (target s q) ≡ true → (u : ℕ)
-      → (isWrite q ≡ true → shared s r (q .processor) (target s q) ≡ true → 1 ≤ u)
-      → total ψ s (served s t q) r + charge F W U s t q ≤ total ψ s t r + u
-  unfolding served charge
-  served-bound t sd r q v kp u hu = go (isWrite q) refl
-    where
-      i : ℕ
-      i = q .processor
+  -- a shared write is paid for
+  shared-pays : (r : Rival) (i : ℕ) (v : Variable) (a : Bool) → shared s r i (blockOf s v) ≡ true
+      → 1 ≤ cond a 1 (cond (shared s r i (blockOf s v)) 1 0)
+  shared-pays r i v true h = omega arith
+  shared-pays r i v false h = rw h (omega arith)
 
-      b : Block
-      b = target s q
+  -- processor i's operation, completed by the rival too
+  servedBy-bound : (t : Tables) (sd : Sound s t) (r : Rival) (i : ℕ) (o : Operation) (a : Bool) → i < s .processors → Named s o → Ready s r i o
+      → total ψ s (servedBy s t i o) r + chargeBy F W U s t i o ≤ total ψ s t r + completionBy s r i o a
+  servedBy-bound t sd r i (Read v) a hi n kp = omega (arith, obtained-bound t sd r i (blockOf s v) hi kp)
+  servedBy-bound t sd r i (Write v x) a hi n kp =
+      let b : Block = blockOf s v in
+      omega (
+        arith,
+        obtained-bound t sd r i b hi kp,
+        written-bound (obtained s t i b) (sound-obtained s ok t sd i b hi (block-lt s ok v n)) r i b hi kp (offsetOf s v) x
+            (completionBy s r i (Write v x) a) (offset-lt s ok v) (obtained-holds s ok t sd i b hi) (shared-pays r i v a),
+      )
 
-      t′ : Tables
-      t′ = obtained s t i b
-
-      first-part : total ψ s t′ r + obtainedCharge F W s t i b ≤ total ψ s t r
-      first-part = obtained-bound t sd r i b (v .processor) kp
-
-      go : (c : Bool) → isWrite q ≡ c
-          → total ψ s (cond c (written s t′ i b (offsetOf s (variableOf q)) (newValue q)) t′) r
-          + (obtainedCharge F W s t i b + cond c (writtenCharge U s t′ i b) 0) ≤ total ψ s t r + u
-      go true e =
-          omega (
-            arith,
-            first-part,
-            written-bound t′ (sound-obtained s ok t sd i b (v .processor) (target-lt s ok q v)) r i b (v .processor) kp
-                (offsetOf s (variableOf q)) (newValue q) u (offset-lt s ok (variableOf q)) (obtained-holds s ok t sd i b (v .processor)) (hu e),
-          )
-      go false e = omega (arith, first-part)
-
--- ---- what a completion pays
-
-completion-pays : (s : Setup) (r : Rival) (q : Request) (a : Bool) → isWrite q ≡ true → shared s r (q .processor) (target s q) ≡ true
-    → 1 ≤ completionCycles s r q a
-unfolding completionCycles
-completion-pays s r q true e h = rw e (omega arith)
-completion-pays s r q false e h = rw (e, h) (omega arith)
+  served-bound : (t : Tables) (sd : Sound s t) (r : Rival) (q : Request) (a : Bool) → Completion s r q
+      → total ψ s (served s t q) r + charge F W U s t q ≤ total ψ s t r + completionCycles s r q a
+  unfolding served charge completionCycles
+  served-bound t sd r q a c = servedBy-bound t sd r (q .processor) (q .operation) a (c .valid .processor) (c .valid .operation) (c .ready)
 
 -- ---- a whole schedule
 
@@ -396,7 +390,7 @@ module _ (s : Setup) (ok : Fits s) (F W U : ℕ) (ψ : ℕ → ℕ → ℕ → �
       let c = completion-legal s r q false (l .0) in
       omega (
         arith,
-        served-bound s ok F W U ψ P t sd r q (c .valid) (c .keeps) (completionCycles s r q false) (completion-pays s r q false),
+        served-bound s ok F W U ψ P t sd r q false c,
         rivalCompleted-total (served s t q) r q,
         bound es (served s t q) (rivalCompleted s r q) qs (sound-served s ok t sd q (c .valid)) (sized-played s r sh (q ∷ qs) Complete) (l .1),
       )
@@ -405,6 +399,6 @@ module _ (s : Setup) (ok : Fits s) (F W U : ℕ) (ψ : ℕ → ℕ → ℕ → �
       let c = completion-legal s r q true (l .0) in
       omega (
         arith,
-        served-bound s ok F W U ψ P t sd r q (c .valid) (c .keeps) (completionCycles s r q true) (completion-pays s r q true),
+        served-bound s ok F W U ψ P t sd r q true c,
         bound es (served s t q) r qs (sound-served s ok t sd q (c .valid)) sh (l .1),
       )

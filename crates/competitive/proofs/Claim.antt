@@ -125,7 +125,7 @@ module _ (s : Setup) (ranged : inRange s ≡ true) where
   run-sound t n r sd = sound-all s ok t sd (takenRun s n r) (run-valid s n r)
 
   pub run-possible : (t : Tables) (a : Account) (ts : List Request) → Possible s a → Possible s (stateAfter s t a ts .account)
-  run-possible t a ts ps = entered-possible s a (length ts) (spent s t ts) ps (spent-small s t ts)
+  run-possible t a ts ps = entered-possible s a (length ts) (spent s t ts) ps (spent-small s ok t ts)
 
   pub runs-left : (rs : List Run) (t : Tables) (a : Account) → Sound s t → Possible s a
       → runs s (record { tables = t; account = a }) rs ≡ stateAfter s t a (takenAll s (a .requests) rs)

@@ -10,31 +10,32 @@ use lib.Seq.{set-getD, map-set-same, ext-getD}
 use lib.Dec.{ltb, eqb}
 use borrow.Author.Tests.{ltb-true, lt-ltb, eqb-true, eqb-false}
 use Rattle.protocol.specs.Lists.{at, zeros, other}
-use Rattle.protocol.specs.Board.{Fits, inRange, variables, slots, slot, offsetOf, fetchPrice, writeBackPrice}
-use Rattle.protocol.specs.Tables.{Tables, tables, fresh, counter, block, mark, holdsAt, holds, marked}
+use Rattle.protocol.specs.Board.{Fits, inRange, variables, slots, slot, lineOf, blockOf, offsetOf, fetchPrice, writeBackPrice}
+use Rattle.protocol.specs.Tables.{Tables, tables, fresh, counter, block, mark, holdsAt, holds, sharing, marked}
 use Rattle.protocol.specs.Soundness.{Sound}
 use Rattle.protocol.specs.Rules.{writtenBack, emptied, filled, saved, saveCycles, evicted, owner, released, fetched, obtained, fetchCycles, writeBackCycles, payer, writtenAlone, broadcast, charged, written, updateCycles}
-use Rattle.protocol.specs.Requests.{isWrite, variableOf, newValue, target, readied, served, bill, Valid}
+use Rattle.protocol.specs.Requests.{Named, Valid, AllValid, servedBy, served, billBy, bill}
 use Rattle.protocol.specs.Accounts.{nothing, plus}
 use Rattle.protocol.specs.Runs.{Run, takenRun, takenAll, servedAll, spent}
-use Rattle.protocol.specs.Rival.{Rival, rival, noCopies, keepsAt, keeps, shared, unmarked, rivalFetched, rivalWrittenBack, rivalDropped, rivalCompleted, completionCycles, played, left, cost, refusal, moveRefusal, completionRefusal, Legal, costs, lastCopies}
-use Rattle.competitive.specs.EngineSchedule.{saving, evicting, obtaining, paying, serving, engineSchedule, EngineIsRival}
+use Rattle.protocol.specs.Rival.{Rival, rival, noCopies, keepsAt, keeps, shared, unmarked, rivalFetched, rivalWrittenBack, rivalDropped, rivalCompleted, completionCycles, played, left, cost, refusal, moveRefusal, Legal, costs, lastCopies}
+use Rattle.competitive.specs.EngineSchedule.{saving, evicting, obtaining, paying, servingBy, serving, engineSchedule, EngineIsRival}
 use Rattle.protocol.specs.declared.Setup.{Setup}
+use Rattle.protocol.specs.declared.Variable.{Variable}
 use Rattle.protocol.specs.declared.Block.{Block}
 use Rattle.protocol.specs.declared.Request.{Request}
+use Rattle.protocol.specs.declared.Operation.{Operation}
+use Rattle.protocol.specs.declared.Operation.the-variants.{Read, Write}
 use Rattle.protocol.specs.declared.Bill.{Bill}
 use Rattle.protocol.specs.declared.Entry.{Entry}
 use Rattle.protocol.specs.declared.Entry.the-variants.{Fetch, WriteBack, Drop, Complete}
 use Rattle.protocol.proofs.Laws.{Same, same, apart, same?, Under, under, over, under?, Known, sure, not-so, known, choice, at-set-other, at-set-zero}
-use Rattle.protocol.proofs.Board.{block-path, block-number, inRange-fits, slot-lt, slot-inj, slot-proper, processor-lt, offset-lt}
-use Rattle.protocol.proofs.Holding.{holdsAt-true, true-holdsAt, holder-slot, payer-found, owner-found}
-use Rattle.protocol.proofs.Requests.{target-lt}
-use Rattle.protocol.proofs.Rival.{length-unmarked}
+use Rattle.protocol.proofs.Board.{block-path, block-number, inRange-fits, row-lt, row-mod, line-lt, slot-lt, slot-inj, processor-lt, offset-lt, block-lt}
+use Rattle.protocol.proofs.Holding.{holdsAt-true, true-holdsAt, holder-slot, payer-below, payer-found, owner-found}
+use Rattle.protocol.proofs.Rival.{legal-completion, length-unmarked}
 use Rattle.competitive.proofs.Sound.{sound-writtenBack}
 use Rattle.competitive.proofs.StepSound.{marked-holds, placed, sound-evicted, sound-released, released-unmarked, sound-obtained, obtained-holds, shared-facts, AllValid, sound-served}
 use Rattle.competitive.proofs.Fresh.{sound-fresh}
-use Rattle.competitive.proofs.Bound.{released-counters, released-blocks}
-use Rattle.competitive.proofs.Values.{evicted-zero}
+use Rattle.competitive.proofs.Bound.{released-counters, released-blocks, evicted-zero}
 use Rattle.competitive.proofs.Claim.{run-valid}
 use Rattle.competitive.proofs.Tight.{rival-path}
 use Rattle.competitive.proofs.Priced.{bill-path}
@@ -155,24 +156,24 @@ unfolding emptied
 empty-same s t k eb ec em =
     rival-path (sym (set-none (t .blocks) k eb)) (ap (map on) (sym (set-none (t .counters) k ec))) (sym (set-none (t .marks) k em))
 
-module _ (s : Setup) (ok : Fits s) (t : Tables) (sd : Sound s t) (qs : List Request) (i : ℕ) (b : Block) (hi : i < s .processors) where
-  -- the block in the way stands in its slot
-  in-way : 0 < counter t (slot s i b) → slot s i (block t (slot s i b)) ≡ slot s i b
-  unfolding slot
-  in-way h = ap (λ z. i * s .lines + z) (sym (sd .line (slot s i b) (slot-lt s ok i b hi) .proper h) ∙ slot-proper s ok i b)
+-- line l of processor i, at slot k
+module _ (s : Setup) (ok : Fits s) (t : Tables) (sd : Sound s t) (qs : List Request) (i l k : ℕ) (hi : i < s .processors) (hl : l < s .lines)
+    (is-k : k ≡ i * s .lines + l) where
+  hk : k < slots s
+  unfolding slots
+  hk = rw is-k (row-lt i (s .processors) (s .lines) l hi hl)
 
-  evicting-leads : Leads s (mirrored t) qs (evicting t i (slot s i b)) (mirrored (evicted s t (slot s i b))) qs (cost3 0 (saveCycles s t (slot s i b)) 0)
+  -- the block in the way stands in its slot
+  in-way : 0 < counter t k → slot s i (block t k) ≡ k
+  unfolding slot
+  in-way h = ap (λ z. i * s .lines + z) (sym (sd .line k hk .proper h) ∙ rw is-k (row-mod i (s .lines) l hl)) ∙ sym is-k
+
+  evicting-leads : Leads s (mirrored t) qs (evicting t i k) (mirrored (evicted s t k)) qs (cost3 0 (saveCycles s t k) 0)
   unfolding evicting saving evicted saved saveCycles marked
   evicting-leads = go (under? 0 (counter t k)) (eqb (mark t k) 1) refl
     where
-      k : ℕ
-      k = slot s i b
-
       c : Block
       c = block t k
-
-      hk : k < slots s
-      hk = slot-lt s ok i b hi
 
       go : Under 0 (counter t k) → (x : Bool) → eqb (mark t k) 1 ≡ x
           → Leads s (mirrored t) qs (cond (ltb 0 (counter t k)) (cond x (WriteBack i c ∷ []) [] ++ Drop i c ∷ []) [])
@@ -218,9 +219,9 @@ released-other s t b a f =
     (λ e. refl)
 
 module _ (s : Setup) (ok : Fits s) (t : Tables) (sd : Sound s t) (b : Block) where
-  cleared : (a : ℕ) → a < slots s → at (unmarked s (mirrored t) b (s .processors)) a ≡ mark (released s t b) a
+  mark-cleared : (a : ℕ) → a < slots s → at (unmarked s (mirrored t) b (s .processors)) a ≡ mark (released s t b) a
   unfolding keeps
-  cleared a l = go (known (holdsAt t a b))
+  mark-cleared a l = go (known (holdsAt t a b))
     where
       go : Known (holdsAt t a b) → at (unmarked s (mirrored t) b (s .processors)) a ≡ mark (released s t b) a
       go (sure f) =
@@ -238,7 +239,7 @@ module _ (s : Setup) (ok : Fits s) (t : Tables) (sd : Sound s t) (b : Block) whe
       let e = length-unmarked s (mirrored t) b (s .processors) in
       ext-getD 0 (unmarked s (mirrored t) b (s .processors)) (released s t b .marks)
       (omega (arith, e, sd .lengths .marks, sound-released s ok t sd b .lengths .marks))
-      (λ a l. cleared a (omega (arith, e, sd .lengths .marks)))
+      (λ a l. mark-cleared a (omega (arith, e, sd .lengths .marks)))
 
   -- the block is fetched into an empty slot
   fetch-leads : (qs : List Request) (i : ℕ) → i < s .processors → counter t (slot s i b) ≡ 0 → b .0 < s .blocks
@@ -255,7 +256,7 @@ module _ (s : Setup) (ok : Fits s) (t : Tables) (sd : Sound s t) (b : Block) whe
 
 obtaining-leads : (s : Setup) (ok : Fits s) (t : Tables) (sd : Sound s t) (qs : List Request) (i : ℕ) (b : Block) → i < s .processors → b .0 < s .blocks
     → Leads s (mirrored t) qs (obtaining s t i b) (mirrored (obtained s t i b)) qs (cost3 (fetchCycles s t i b) (writeBackCycles s t i b) 0)
-unfolding obtaining obtained fetchCycles writeBackCycles
+unfolding obtaining obtained fetchCycles writeBackCycles slot
 obtaining-leads s ok t sd qs i b hi hb = go (holds s t i b)
   where
     k : ℕ
@@ -266,51 +267,51 @@ obtaining-leads s ok t sd qs i b hi hb = go (holds s t i b)
         (cost3 (cond c 0 (fetchPrice s)) (cond c 0 (saveCycles s t k)) 0)
     go true = leads-none s (mirrored t) qs
     go false =
-        leads-on s (cost3 (fetchPrice s) (saveCycles s t k) 0) (bill-path (omega arith) (omega arith) (omega arith)) (evicting-leads s ok t sd qs i b hi)
+        leads-on s (cost3 (fetchPrice s) (saveCycles s t k) 0) (bill-path (omega arith) (omega arith) (omega arith)) (evicting-leads s ok t sd qs i (lineOf s b) k hi (line-lt s ok b) refl)
         (fetch-leads s ok (evicted s t k) (sound-evicted s ok t sd k (slot-lt s ok i b hi)) b qs i hi (evicted-zero s t k) hb)
 
 -- ---- rules 3 to 5: the request is completed
 
-shared-payer : (s : Setup) (t : Tables) (i : ℕ) (b : Block) → shared s (mirrored t) i b ≡ ltb (payer s t i b) (s .processors)
-unfolding shared payer
-shared-payer s t i b = ap (λ P. ltb (other (s .processors) i P) (s .processors)) (λ x j. keeps-holds s t j b x)
+shared-sharing : (s : Setup) (t : Tables) (i : ℕ) (b : Block) → shared s (mirrored t) i b ≡ sharing s t i b
+unfolding shared sharing
+shared-sharing s t i b = ap (λ P. ltb (other (s .processors) i P) (s .processors)) (λ x j. keeps-holds s t j b x)
 
-module _ (s : Setup) (ok : Fits s) (t : Tables) (q : Request) (qs : List Request) (v : Valid s q) (hd : holds s t (q .processor) (target s q) ≡ true) where
-  fine : refusal s (mirrored t) (q ∷ qs) Complete ≡ 0
-  unfolding completionRefusal
-  fine = rw (
-    lt-ltb (q .processor) (s .processors) (v .processor),
-    lt-ltb (variableOf q .0) (variables s) (v .variable),
-    keeps-holds s t (q .processor) (target s q) ∙ hd,
-  )
+-- processor i's request
+abbrev asks : ℕ → Operation → Request
+asks i o = record { processor = i; operation = o }
+
+read-leads : (s : Setup) (t : Tables) (i : ℕ) (v : Variable) (qs : List Request) → i < s .processors → v .0 < variables s → holds s t i (blockOf s v) ≡ true
+    → Leads s (mirrored t) (asks i (Read v) ∷ qs) (Complete ∷ []) (mirrored t) qs nothing
+unfolding rivalCompleted completionCycles
+read-leads s t i v qs hi n hd =
+    leads-one s (mirrored t) (asks i (Read v) ∷ qs) Complete (mirrored t) nothing
+    (legal-completion s (mirrored t) (asks i (Read v)) (record { processor = hi; operation = n }) (keeps-holds s t i (blockOf s v) ∙ hd)) refl refl
+
+module _ (s : Setup) (ok : Fits s) (t : Tables) (i : ℕ) (v : Variable) (x : ℕ) (qs : List Request) (hi : i < s .processors) (n : v .0 < variables s)
+    (hd : holds s t i (blockOf s v) ≡ true) where
+  fine : refusal s (mirrored t) (asks i (Write v x) ∷ qs) Complete ≡ 0
+  fine = legal-completion s (mirrored t) (asks i (Write v x)) (record { processor = hi; operation = n }) (keeps-holds s t i (blockOf s v) ∙ hd)
 
   -- the writer's counter becomes full
-  writer-held : map on (set (t .counters) (slot s (q .processor) (target s q)) (fetchPrice s)) ≡ map on (t .counters)
-  writer-held =
-      let i : ℕ = q .processor in
-      let b : Block = target s q in
-      held-same (t .counters) (slot s i b) (fetchPrice s) (ok .some-fetch) (holder-slot s t i b hd .0)
+  writer-held : map on (set (t .counters) (slot s i (blockOf s v)) (fetchPrice s)) ≡ map on (t .counters)
+  writer-held = held-same (t .counters) (slot s i (blockOf s v)) (fetchPrice s) (ok .some-fetch) (holder-slot s t i (blockOf s v) hd .0)
 
-  read-leads : isWrite q ≡ false → Leads s (mirrored t) (q ∷ qs) (Complete ∷ []) (mirrored t) qs nothing
-  unfolding rivalCompleted completionCycles
-  read-leads e = leads-one s (mirrored t) (q ∷ qs) Complete (mirrored t) nothing fine (rw e) (rw e)
+  alone-leads : sharing s t i (blockOf s v) ≡ false
+      → Leads s (mirrored t) (asks i (Write v x) ∷ qs) (Complete ∷ []) (mirrored (writtenAlone s t (slot s i (blockOf s v)) (offsetOf s v) x)) qs nothing
+  unfolding rivalCompleted completionCycles writtenAlone
+  alone-leads l =
+      let f = shared-sharing s t i (blockOf s v) ∙ l in
+      leads-one s (mirrored t) (asks i (Write v x) ∷ qs) Complete (mirrored (writtenAlone s t (slot s i (blockOf s v)) (offsetOf s v) x)) nothing fine
+      (rw f (rival-path refl (sym writer-held) refl)) (rw f)
 
-  module _ (e : isWrite q ≡ true) (o x : ℕ) where
-    alone-leads : ltb (payer s t (q .processor) (target s q)) (s .processors) ≡ false
-        → Leads s (mirrored t) (q ∷ qs) (Complete ∷ []) (mirrored (writtenAlone s t (slot s (q .processor) (target s q)) o x)) qs nothing
-    unfolding rivalCompleted completionCycles writtenAlone
-    alone-leads l =
-        let f = shared-payer s t (q .processor) (target s q) ∙ l in
-        leads-one s (mirrored t) (q ∷ qs) Complete (mirrored (writtenAlone s t (slot s (q .processor) (target s q)) o x)) nothing fine
-        (rw (e, f) (rival-path refl (sym writer-held) refl)) (rw (e, f))
-
-    broadcast-leads : ltb (payer s t (q .processor) (target s q)) (s .processors) ≡ true
-        → Leads s (mirrored t) (q ∷ qs) (Complete ∷ []) (mirrored (broadcast s t (slot s (q .processor) (target s q)) (target s q) o x)) qs (cost3 0 0 1)
-    unfolding rivalCompleted completionCycles broadcast
-    broadcast-leads l =
-        let f = shared-payer s t (q .processor) (target s q) ∙ l in
-        leads-one s (mirrored t) (q ∷ qs) Complete (mirrored (broadcast s t (slot s (q .processor) (target s q)) (target s q) o x)) (cost3 0 0 1) fine
-        (rw (e, f) (rival-path refl (sym writer-held) refl)) (rw (e, f))
+  broadcast-leads : sharing s t i (blockOf s v) ≡ true
+      → Leads s (mirrored t) (asks i (Write v x) ∷ qs) (Complete ∷ []) (mirrored (broadcast s t (slot s i (blockOf s v)) (blockOf s v) (offsetOf s v) x)) qs
+      (cost3 0 0 1)
+  unfolding rivalCompleted completionCycles broadcast
+  broadcast-leads l =
+      let f = shared-sharing s t i (blockOf s v) ∙ l in
+      leads-one s (mirrored t) (asks i (Write v x) ∷ qs) Complete (mirrored (broadcast s t (slot s i (blockOf s v)) (blockOf s v) (offsetOf s v) x))
+      (cost3 0 0 1) fine (rw f (rival-path refl (sym writer-held) refl)) (rw f)
 
 -- the payer's counter falls; at 0 its copy goes
 charged-leads : (s : Setup) (ok : Fits s) (t : Tables) (sd : Sound s t) (qs : List Request) (j : ℕ) (b : Block) → j < s .processors
@@ -331,79 +332,65 @@ charged-leads s ok t sd qs j b hj hd un = go (eqb (counter t k) 1) refl
         let h = holdsAt-true t k b hd .0 in
         rw (held-same (t .counters) k (counter t k - 1) (omega (arith, eqb-false (counter t k) 1 e)) h) (leads-none s (mirrored t) qs)
 
-module _ (s : Setup) (ok : Fits s) (t : Tables) (sd : Sound s t) (q : Request) (qs : List Request) (v : Valid s q) (hd : holds s t (q .processor) (target s q) ≡ true)
-    (e : isWrite q ≡ true) (o x : ℕ) (ho : o < s .words) where
-  abbrev i : ℕ
-  i = q .processor
+paying-leads : (s : Setup) (ok : Fits s) (t : Tables) (sd : Sound s t) (qs : List Request) (i : ℕ) (b : Block) (o x : ℕ) → i < s .processors → o < s .words
+    → holds s t i b ≡ true → sharing s t i b ≡ true
+    → Leads s (mirrored (broadcast s t (slot s i b) b o x)) qs (cond (eqb (counter t (slot s (payer s t i b) b)) 1) (Drop (payer s t i b) b ∷ []) [])
+    (mirrored (charged s (broadcast s t (slot s i b) b o x) (slot s (payer s t i b) b))) qs nothing
+unfolding broadcast
+paying-leads s ok t sd qs i b o x hi ho hd l =
+    let j : ℕ = payer s t i b in
+    let t′ : Tables = broadcast s t (slot s i b) b o x in
+    let a = payer-found s t i b l in
+    let w = shared-facts s ok t sd i b hi o x ho hd l in
+    let c : counter t′ (slot s j b) ≡ counter t (slot s j b)
+    = at-set-other (t .counters) (slot s i b) (fetchPrice s) (slot s j b) (λ y. a .differs (slot-inj s ok j i b b y)) in
+    rw c at
+    (charged-leads s ok t′ (w .sound) qs j b (payer-below s t i b l) (true-holdsAt t′ (slot s j b) b (w .holds) (holder-slot s t j b (a .passes) .1)) (w .clean))
 
-  abbrev b : Block
-  b = target s q
+written-leads : (s : Setup) (ok : Fits s) (t : Tables) (sd : Sound s t) (i : ℕ) (v : Variable) (x : ℕ) (qs : List Request) → i < s .processors
+    → v .0 < variables s → holds s t i (blockOf s v) ≡ true
+    → Leads s (mirrored t) (asks i (Write v x) ∷ qs) (Complete ∷ paying s t i (blockOf s v)) (mirrored (written s t i (blockOf s v) (offsetOf s v) x)) qs
+    (cost3 0 0 (updateCycles s t i (blockOf s v)))
+unfolding paying written updateCycles
+written-leads s ok t sd i v x qs hi n hd = go (sharing s t i b) refl
+  where
+    b : Block
+    b = blockOf s v
 
-  paying-leads : payer s t (q .processor) (target s q) < s .processors
-      → Leads s (mirrored (broadcast s t (slot s (q .processor) (target s q)) (target s q) o x)) qs
-      (cond (eqb (counter t (slot s (payer s t (q .processor) (target s q)) (target s q))) 1) (Drop (payer s t (q .processor) (target s q)) (target s q) ∷ []) [])
-      (mirrored (charged s (broadcast s t (slot s (q .processor) (target s q)) (target s q) o x) (slot s (payer s t (q .processor) (target s q)) (target s q)))) qs nothing
-  unfolding broadcast
-  paying-leads l =
-      let j : ℕ = payer s t i b in
-      let t′ : Tables = broadcast s t (slot s i b) b o x in
-      let a = payer-found s t i b l in
-      let w = shared-facts s ok t sd i b (v .processor) o x ho hd l in
-      let c : counter t′ (slot s j b) ≡ counter t (slot s j b)
-      = at-set-other (t .counters) (slot s i b) (fetchPrice s) (slot s j b) (λ y. a .differs (slot-inj s ok j i b b y)) in
-      rw c at (charged-leads s ok t′ (w .sound) qs j b l (true-holdsAt t′ (slot s j b) b (w .holds) (holder-slot s t j b (a .passes) .1)) (w .clean))
+    o : ℕ
+    o = offsetOf s v
 
-  written-leads : Leads s (mirrored t) (q ∷ qs) (Complete ∷ paying s t (q .processor) (target s q)) (mirrored (written s t (q .processor) (target s q) o x)) qs
-      (cost3 0 0 (updateCycles s t (q .processor) (target s q)))
-  unfolding paying written updateCycles
-  written-leads = go (ltb j (s .processors)) refl
-    where
-      j : ℕ
-      j = payer s t i b
+    j : ℕ
+    j = payer s t i b
 
-      t′ : Tables
-      t′ = broadcast s t (slot s i b) b o x
+    t′ : Tables
+    t′ = broadcast s t (slot s i b) b o x
 
-      go : (c : Bool) → ltb j (s .processors) ≡ c
-          → Leads s (mirrored t) (q ∷ qs) (Complete ∷ cond (c && eqb (counter t (slot s j b)) 1) (Drop j b ∷ []) [])
-          (mirrored (cond c (charged s t′ (slot s j b)) (writtenAlone s t (slot s i b) o x))) qs (cost3 0 0 (cond c 1 0))
-      go true l =
-          leads-on s (cost3 0 0 1) (bill-path (omega arith) (omega arith) (omega arith)) (broadcast-leads s ok t q qs v hd e o x l)
-          (paying-leads (ltb-true _ _ l))
-      go false l = alone-leads s ok t q qs v hd e o x l
+    go : (c : Bool) → sharing s t i b ≡ c
+        → Leads s (mirrored t) (asks i (Write v x) ∷ qs) (Complete ∷ cond (c && eqb (counter t (slot s j b)) 1) (Drop j b ∷ []) [])
+        (mirrored (cond c (charged s t′ (slot s j b)) (writtenAlone s t (slot s i b) o x))) qs (cost3 0 0 (cond c 1 0))
+    go true l =
+        leads-on s (cost3 0 0 1) (bill-path (omega arith) (omega arith) (omega arith)) (broadcast-leads s ok t i v x qs hi n hd l)
+        (paying-leads s ok t sd qs i b o x hi (offset-lt s ok v) hd l)
+    go false l = alone-leads s ok t i v x qs hi n hd l
 
 -- ---- a request, and a list of them
+
+servingBy-leads : (s : Setup) (ok : Fits s) (t : Tables) (sd : Sound s t) (i : ℕ) (o : Operation) (qs : List Request) → i < s .processors → Named s o
+    → Leads s (mirrored t) (asks i o ∷ qs) (servingBy s t i o) (mirrored (servedBy s t i o)) qs (billBy s t i o)
+servingBy-leads s ok t sd i (Read v) qs hi n =
+    let b : Block = blockOf s v in
+    leads-on s _ (bill-path (omega arith) (omega arith) (omega arith)) (obtaining-leads s ok t sd (asks i (Read v) ∷ qs) i b hi (block-lt s ok v n))
+    (read-leads s (obtained s t i b) i v qs hi n (obtained-holds s ok t sd i b hi))
+servingBy-leads s ok t sd i (Write v x) qs hi n =
+    let b : Block = blockOf s v in
+    leads-on s _ (bill-path (omega arith) (omega arith) (omega arith)) (obtaining-leads s ok t sd (asks i (Write v x) ∷ qs) i b hi (block-lt s ok v n))
+    (written-leads s ok (obtained s t i b) (sound-obtained s ok t sd i b hi (block-lt s ok v n)) i v x qs hi n (obtained-holds s ok t sd i b hi))
 
 serving-leads : (s : Setup) (ok : Fits s) (t : Tables) (sd : Sound s t) (q : Request) (qs : List Request) → Valid s q
     → Leads s (mirrored t) (q ∷ qs) (serving s t q) (mirrored (served s t q)) qs (bill s t q)
 unfolding serving served bill
-serving-leads s ok t sd q qs v =
-    leads-on s _ (bill-path (omega arith) (omega arith) (omega arith))
-    (obtaining-leads s ok t sd (q ∷ qs) i b (v .processor) (target-lt s ok q v)) (go (isWrite q) refl)
-  where
-    i : ℕ
-    i = q .processor
-
-    b : Block
-    b = target s q
-
-    t′ : Tables
-    t′ = readied s t q
-
-    sd′ : Sound s (readied s t q)
-    sd′ = sound-obtained s ok t sd i b (v .processor) (target-lt s ok q v)
-
-    hd : holds s (readied s t q) (q .processor) (target s q) ≡ true
-    hd = obtained-holds s ok t sd i b (v .processor)
-
-    o : ℕ
-    o = offsetOf s (variableOf q)
-
-    go : (c : Bool) → isWrite q ≡ c
-        → Leads s (mirrored t′) (q ∷ qs) (Complete ∷ cond c (paying s t′ i b) []) (mirrored (cond c (written s t′ i b o (newValue q)) t′)) qs
-        (cost3 0 0 (cond c (updateCycles s t′ i b) 0))
-    go true e = written-leads s ok t′ sd′ q qs v hd e o (newValue q) (offset-lt s ok (variableOf q))
-    go false e = read-leads s ok t′ q qs v hd e
+serving-leads s ok t sd q qs v = servingBy-leads s ok t sd (q .processor) (q .operation) qs (v .processor) (v .operation)
 
 -- from copies r, where the engine's tables are t
 record Whole (s : Setup) (t : Tables) (r : Rival) (qs : List Request) : Type 0 where

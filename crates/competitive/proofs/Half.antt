@@ -4,24 +4,25 @@ use mathlib.Core.Path.{_≡_, refl}
 use mathlib.Core.Bool.{Bool, true, false, cond}
 use mathlib.Core.List.{List, [], _∷_}
 use native.Mathlib.Omega.{arith}
-use lib.Dec.{ltb}
-use Rattle.protocol.specs.Board.{Fits, slots, slot, fetchPrice, writeBackPrice}
-use Rattle.protocol.specs.Tables.{Tables, fresh, holds, marked}
-use Rattle.protocol.specs.Rules.{saveCycles, obtained, fetchCycles, writeBackCycles, payer, updateCycles}
-use Rattle.protocol.specs.Requests.{served, bill, target, isWrite}
+use Rattle.protocol.specs.Board.{Fits, slots, slot, blockOf, fetchPrice, writeBackPrice}
+use Rattle.protocol.specs.Tables.{Tables, fresh, holds, sharing, marked}
+use Rattle.protocol.specs.Rules.{saveCycles, obtained, fetchCycles, writeBackCycles, updateCycles}
+use Rattle.protocol.specs.Requests.{served, billBy, bill}
 use Rattle.protocol.specs.Accounts.{cycles}
 use Rattle.protocol.specs.Runs.{spent}
 use Rattle.protocol.specs.Rival.{noCopies, Legal, costs}
 use Rattle.protocol.specs.declared.Setup.{Setup}
 use Rattle.protocol.specs.declared.Block.{Block}
 use Rattle.protocol.specs.declared.Request.{Request}
+use Rattle.protocol.specs.declared.Operation.{Operation}
+use Rattle.protocol.specs.declared.Operation.the-variants.{Read, Write}
 use Rattle.protocol.specs.declared.Entry.{Entry}
-use Rattle.protocol.proofs.Laws.{at-zeros}
+use Rattle.protocol.proofs.Laws.{both, at-zeros}
 use Rattle.protocol.proofs.Rival.{sized-noCopies}
 use Rattle.competitive.proofs.Sums.{sum-zero}
 use Rattle.competitive.proofs.Fresh.{sound-fresh}
 use Rattle.competitive.proofs.Potential.{Potential, debt, load, fetch-potential, update-potential}
-use Rattle.competitive.proofs.Bound.{obtainedCharge, writtenCharge, charge, charges, total, paidFor, bound}
+use Rattle.competitive.proofs.Bound.{obtainedCharge, writtenCharge, chargeBy, charge, charges, total, paidFor, bound}
 
 -- ---- the start: empty caches on both sides
 
@@ -35,41 +36,45 @@ pick-same : (c : Bool) → _≡_ {A = ℕ} (cond c 0 0) 0
 pick-same true = refl
 pick-same false = refl
 
-fetch-charge : (s : Setup) (t : Tables) (q : Request) → charge (fetchPrice s) 0 0 s t q ≡ bill s t q .fetch
-unfolding charge obtainedCharge writtenCharge bill fetchCycles
-fetch-charge s t q = go (holds s t i b) (marked t (slot s i b)) (isWrite q) (ltb (payer s (obtained s t i b) i b) (s .processors))
-  where
-    i : ℕ
-    i = q .processor
+module _ (s : Setup) (t : Tables) (i : ℕ) (b : Block) where
+  obtained-fetch : obtainedCharge (fetchPrice s) 0 s t i b ≡ fetchCycles s t i b
+  unfolding obtainedCharge fetchCycles
+  obtained-fetch = both _≡_ (holds s t i b) (λ e. refl) (λ e. rw (pick-same (marked t (slot s i b))) (omega arith))
 
-    b : Block
-    b = target s q
+  obtained-back : obtainedCharge 0 (writeBackPrice s) s t i b ≡ writeBackCycles s t i b
+  unfolding obtainedCharge writeBackCycles saveCycles
+  obtained-back = both _≡_ (holds s t i b) (λ e. refl) (λ e. omega arith)
 
-    go : (a m w p : Bool) → cond a 0 (fetchPrice s + cond m 0 0) + cond w (cond p 0 0) 0 ≡ cond a 0 (fetchPrice s)
-    go true m w p = rw (pick-same p, pick-same w) (omega arith)
-    go false m w p = rw (pick-same p, pick-same w, pick-same m) (omega arith)
+  written-nothing : writtenCharge 0 s t i b ≡ 0
+  unfolding writtenCharge
+  written-nothing = pick-same (sharing s t i b)
 
-update-charge : (s : Setup) (t : Tables) (q : Request) → charge 0 (writeBackPrice s) 1 s t q ≡ bill s t q .«write_back» + bill s t q .update
-unfolding charge obtainedCharge writtenCharge bill writeBackCycles saveCycles updateCycles
-update-charge s t q = go (holds s t i b) (marked t (slot s i b)) (cond (isWrite q) (cond (ltb (payer s (obtained s t i b) i b) (s .processors)) 1 0) 0)
-  where
-    i : ℕ
-    i = q .processor
+  written-update : writtenCharge 1 s t i b ≡ updateCycles s t i b
+  unfolding writtenCharge updateCycles
+  written-update = refl
 
-    b : Block
-    b = target s q
+fetch-charge : (s : Setup) (t : Tables) (i : ℕ) (o : Operation) → chargeBy (fetchPrice s) 0 0 s t i o ≡ billBy s t i o .fetch
+fetch-charge s t i (Read v) = obtained-fetch s t i (blockOf s v)
+fetch-charge s t i (Write v x) =
+    let b : Block = blockOf s v in
+    omega (arith, obtained-fetch s t i b, written-nothing s (obtained s t i b) i b)
 
-    go : (a m : Bool) (u : ℕ) → cond a 0 (0 + cond m (writeBackPrice s) 0) + u ≡ cond a 0 (cond m (writeBackPrice s) 0) + u
-    go true m u = refl
-    go false m u = omega arith
+update-charge : (s : Setup) (t : Tables) (i : ℕ) (o : Operation)
+    → chargeBy 0 (writeBackPrice s) 1 s t i o ≡ billBy s t i o .«write_back» + billBy s t i o .update
+update-charge s t i (Read v) = omega (arith, obtained-back s t i (blockOf s v))
+update-charge s t i (Write v x) =
+    let b : Block = blockOf s v in
+    omega (arith, obtained-back s t i b, written-update s (obtained s t i b) i b)
 
 fetch-charges : (s : Setup) (t : Tables) (qs : List Request) → charges (fetchPrice s) 0 0 s t qs ≡ spent s t qs .fetch
+unfolding charge bill
 fetch-charges s t [] = refl
-fetch-charges s t (q ∷ qs) = omega (arith, fetch-charge s t q, fetch-charges s (served s t q) qs)
+fetch-charges s t (q ∷ qs) = omega (arith, fetch-charge s t (q .processor) (q .operation), fetch-charges s (served s t q) qs)
 
 update-charges : (s : Setup) (t : Tables) (qs : List Request) → charges 0 (writeBackPrice s) 1 s t qs ≡ spent s t qs .«write_back» + spent s t qs .update
+unfolding charge bill
 update-charges s t [] = omega arith
-update-charges s t (q ∷ qs) = omega (arith, update-charge s t q, update-charges s (served s t q) qs)
+update-charges s t (q ∷ qs) = omega (arith, update-charge s t (q .processor) (q .operation), update-charges s (served s t q) qs)
 
 -- ---- theorem 4.2 and the factor of two
 

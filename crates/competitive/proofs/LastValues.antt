@@ -9,11 +9,11 @@ use lib.ListN.{length}
 use lib.Dec.{ltb, eqb}
 use borrow.Author.Tests.{eqb-true}
 use Rattle.protocol.specs.Lists.{tail}
-use Rattle.protocol.specs.Refusals.{noRefusal, wrongLength, unsoundTables, impossibleAccount}
-use Rattle.protocol.specs.Board.{Fits, inRange, variables}
+use Rattle.protocol.specs.Refusals.{noRefusal, wrongLength, accountFull, unsoundTables, impossibleAccount}
+use Rattle.protocol.specs.Board.{Fits, inRange}
 use Rattle.protocol.specs.Tables.{Tables, fresh}
 use Rattle.protocol.specs.Soundness.{Sound}
-use Rattle.protocol.specs.Requests.{served, value, bill, isWrite, variableOf, newValue, requestRefusal, requestLimit, Valid}
+use Rattle.protocol.specs.Requests.{Valid, AllValid, served, value, bill, requestRefusal, requestLimit}
 use Rattle.protocol.specs.Accounts.{entered}
 use Rattle.protocol.specs.Runs.{Outcome, ended, onward, walk, runRefusal, run, Run, State, outcomes, outcomeOf, leftBy, takenRun, servedAll}
 use Rattle.competitive.specs.Claims.{expectedValue, expectedFrom, expectedRun, expectedAll, valuesOf, Never20Or21, LastValues}
@@ -24,22 +24,17 @@ use Rattle.protocol.proofs.Laws.{choice}
 use Rattle.protocol.proofs.Board.{inRange-fits}
 use Rattle.protocol.proofs.Checked.{sound-passes, sized-passes}
 use Rattle.protocol.proofs.Accounts.{Possible, possible-is, is-possible}
-use Rattle.protocol.proofs.Requests.{request-passed}
-use Rattle.competitive.proofs.StepSound.{AllValid}
+use Rattle.protocol.proofs.Requests.{named-choice, request-passed}
 use Rattle.competitive.proofs.Fresh.{sound-fresh}
 use Rattle.competitive.proofs.Values.{last-value}
 use Rattle.competitive.proofs.Claim.{served-append, sound-all, run-valid, stateAfter, run-state, run-possible}
 
 -- ---- a request's value
 
-write-value : (s : Setup) (t : Tables) (q : Request) → isWrite q ≡ true → value s t q ≡ newValue q
-unfolding value
-write-value s t q e = rw e
-
 value-expected : (s : Setup) (ok : Fits s) (ps : List Request) (q : Request) → AllValid s ps → Valid s q
-    → value s (servedAll s (fresh s) ps) q ≡ expectedValue ps q
-value-expected s ok ps q va v =
-    choice (λ z. value s (servedAll s (fresh s) ps) q ≡ z) (isWrite q) (λ e. write-value s (servedAll s (fresh s) ps) q e) (λ e. last-value s ok ps q va v e)
+    → value s (servedAll s (fresh s) ps) q ≡ expectedValue ps (q .operation)
+unfolding value
+value-expected s ok ps q va v = last-value s ok ps (q .processor) (q .operation) va (v .processor) (v .operation)
 
 pub valid-append : (s : Setup) (xs ys : List Request) → AllValid s xs → AllValid s ys → AllValid s (xs ++ ys)
 valid-append s [] ys a b = b
@@ -55,9 +50,9 @@ request-meets-neither : (s : Setup) (n : ℕ) (q : Request) → Neither20Nor21 (
 unfolding requestRefusal
 request-meets-neither s n q =
     choice Neither20Nor21 (ltb (q .processor) (s .processors))
-    (λ _. choice Neither20Nor21 (ltb (variableOf q .0) (variables s))
-    (λ _. choice Neither20Nor21 (ltb n requestLimit) (λ _. (λ e. omega arith, λ e. omega arith)) (λ _. (λ e. omega arith, λ e. omega arith)))
-    (λ _. (λ e. omega arith, λ e. omega arith)))
+    (λ _. named-choice Neither20Nor21 s (q .operation) (cond (ltb n requestLimit) noRefusal accountFull)
+    (choice Neither20Nor21 (ltb n requestLimit) (λ _. (λ e. omega arith, λ e. omega arith)) (λ _. (λ e. omega arith, λ e. omega arith)))
+    (λ e. omega arith, λ e. omega arith))
     (λ _. (λ e. omega arith, λ e. omega arith))
 
 walk-meets-neither : (s : Setup) (t : Tables) (a : Account) (qs : List Request) (vs : List ℕ) → Neither20Nor21 (walk s t a qs vs .answer .refusal)
@@ -85,7 +80,7 @@ walk-values s ok a ps va (q ∷ qs) vs =
     go : (c : Bool) → eqb (requestRefusal s (a .requests) q) 0 ≡ c
         → (Valid s q → walk s (servedAll s (fresh s) (ps ++ q ∷ [])) a′ qs (tail vs) .values ≡ later)
         → cond c (onward (value s t q) (walk s (served s t q) a′ qs (tail vs))) (ended (requestRefusal s (a .requests) q) t a vs) .values
-        ≡ cond c (expectedValue ps q ∷ later) vs
+        ≡ cond c (expectedValue ps (q .operation) ∷ later) vs
     go true e h =
         let v = request-passed s (a .requests) q (eqb-true _ _ e) .0 in
         let w : walk s (served s t q) a′ qs (tail vs) .values ≡ later

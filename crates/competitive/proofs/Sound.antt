@@ -10,7 +10,7 @@ use borrow.Author.Tests.{eqb-false}
 use Rattle.protocol.specs.Lists.{at, zeros}
 use Rattle.protocol.specs.Board.{Fits, slots, slot, lineOf, wordIndex, memoryIndex, fetchPrice}
 use Rattle.protocol.specs.Tables.{Tables, tables, counter, block, mark, word, memoryWord, lineWords, memoryWords, holds}
-use Rattle.protocol.specs.Soundness.{Line, LineAt, Sound}
+use Rattle.protocol.specs.Soundness.{SlotSound, SlotSoundAt, Sound}
 use Rattle.protocol.specs.Rules.{writtenBack, emptied, filled, updatedCopies, writtenAlone, broadcast, charged}
 use Rattle.protocol.specs.declared.Setup.{Setup}
 use Rattle.protocol.specs.declared.Block.{Block}
@@ -22,7 +22,7 @@ use Rattle.protocol.proofs.Lengths.{counter-stored, block-stored, mark-stored, 
 
 -- a line with the same entries
 pub reline : (s : Setup) {k c m c′ m′ : ℕ} {b b′ : Block} {w w′ g g′ : ℕ → ℕ} → c′ ≡ c → b′ ≡ b → m′ ≡ m → ((o : ℕ) → o < s .words → w′ o ≡ w o)
-    → (0 < c → (o : ℕ) → o < s .words → g′ o ≡ g o) → Line s k c b m w g → Line s k c′ b′ m′ w′ g′
+    → (0 < c → (o : ℕ) → o < s .words → g′ o ≡ g o) → SlotSound s k c b m w g → SlotSound s k c′ b′ m′ w′ g′
 reline s {k} {c} {m} {c′} {m′} {b} {b′} {w} {w′} {g} {g′} ec eb em ew eg l = record {
   bounded = omega (arith, l .bounded);
   no-block = λ e. block-number eb ∙ l .no-block (omega arith);
@@ -37,7 +37,7 @@ reline s {k} {c} {m} {c′} {m′} {b} {b′} {w} {w′} {g} {g′} ec eb em ew 
 
 -- an empty line
 pub empty-line : (s : Setup) (k c : ℕ) (b : Block) (m : ℕ) (w g : ℕ → ℕ) → c ≡ 0 → b .0 ≡ 0 → m ≡ 0 → ((o : ℕ) → o < s .words → w o ≡ 0)
-    → Line s k c b m w g
+    → SlotSound s k c b m w g
 empty-line s k c b m w g ec eb em ew = record {
   bounded = omega arith;
   no-block = λ e. eb;
@@ -82,7 +82,7 @@ module _ (s : Setup) (ok : Fits s) (t : Tables) (sd : Sound s t) where
       c-pos : 0 < counter t k
       c-pos = omega (arith, sd .line k h .full e, ok .some-fetch)
 
-      line′ : (m : ℕ) → m < slots s → Same m k → LineAt s (writtenBack s t k) m
+      line′ : (m : ℕ) → m < slots s → Same m k → SlotSoundAt s (writtenBack s t k) m
       line′ m u (same p q) = rw p (record {
         bounded = sd .line k h .bounded;
         no-block = sd .line k h .no-block;
@@ -121,7 +121,7 @@ module _ (s : Setup) (ok : Fits s) (t : Tables) (sd : Sound s t) where
     lone = λ j m u v p d l. lone′ j m u v p d l (same? j k) (same? m k);
   }
     where
-      line′ : (m : ℕ) → m < slots s → Same m k → LineAt s (emptied s t k) m
+      line′ : (m : ℕ) → m < slots s → Same m k → SlotSoundAt s (emptied s t k) m
       line′ m u (same p q) =
           rw p
           (empty-line s k _ _ _ _ _ (counter-stored s t (sd .lengths) k 0 h) (block-stored s t (sd .lengths) k 0 h) (mark-stored s t (sd .lengths) k 0 h)
@@ -163,7 +163,7 @@ module _ (s : Setup) (ok : Fits s) (t : Tables) (sd : Sound s t) where
     lone = λ j m u v p d l. lone′ j m u v p d l (same? j k) (same? m k);
   }
     where
-      line′ : (m : ℕ) → m < slots s → Same m k → LineAt s (filled s t k b) m
+      line′ : (m : ℕ) → m < slots s → Same m k → SlotSoundAt s (filled s t k b) m
       line′ m u (same p q) = rw (
         p,
         counter-stored s t (sd .lengths) k (fetchPrice s) h,
@@ -204,7 +204,7 @@ module _ (s : Setup) (ok : Fits s) (t : Tables) (sd : Sound s t) where
     lone = λ j m u v p d l. lone′ j m u v p d l (same? j k) (same? m k);
   }
     where
-      line′ : (m : ℕ) → m < slots s → Same m k → LineAt s (writtenAlone s t k o x) m
+      line′ : (m : ℕ) → m < slots s → Same m k → SlotSoundAt s (writtenAlone s t k o x) m
       line′ m u (same p q) = rw (p, counter-stored s t (sd .lengths) k (fetchPrice s) h, mark-stored s t (sd .lengths) k 1 h) (record {
         bounded = omega arith;
         no-block = λ z. absurd (omega (arith, ok .some-fetch));
@@ -317,7 +317,7 @@ module _ (s : Setup) (ok : Fits s) (t : Tables) (sd : Sound s t) where
           broadcast-word-out k b o x m u ho y (λ _ e. absurd (p e)) ∙ sd .line m v .clean z l u y
           ∙ sym (broadcast-memory-other k b o x (block t m) u ho y (λ e. absurd (p e)))
 
-      line′ : (m : ℕ) → m < slots s → Same m k → LineAt s (broadcast s t k b o x) m
+      line′ : (m : ℕ) → m < slots s → Same m k → SlotSoundAt s (broadcast s t k b o x) m
       line′ m u (same p q) = rw (p, counter-stored s t (sd .lengths) k (fetchPrice s) h) (record {
         bounded = omega arith;
         no-block = λ z. absurd (omega (arith, ok .some-fetch));
@@ -353,7 +353,7 @@ module _ (s : Setup) (ok : Fits s) (t : Tables) (sd : Sound s t) where
       c : counter lower k ≡ counter t k - 1
       c = counter-stored s t (sd .lengths) k (counter t k - 1) h
 
-      line′ : counter t k ≢ 1 → (m : ℕ) → m < slots s → Same m k → LineAt s lower m
+      line′ : counter t k ≢ 1 → (m : ℕ) → m < slots s → Same m k → SlotSoundAt s lower m
       line′ d m u (same p q) = rw (p, c) (record {
         bounded = omega (arith, sd .line k h .bounded);
         no-block = λ z. absurd (omega arith);

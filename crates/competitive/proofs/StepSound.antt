@@ -2,26 +2,27 @@
 use Prim.Native.Nat.{ℕ, _/_, _%_, _≤_, _<_}
 use mathlib.Core.Path.{_≡_, sym, ap, _∙_}
 use mathlib.Core.Logic.{_≢_}
-use mathlib.Core.Bool.{true, true≢false}
+use mathlib.Core.Bool.{true, false, true≢false}
 use mathlib.Core.List.{List, [], _∷_}
 use native.Mathlib.Omega.{arith}
 use lib.ListN.{set}
 use lib.Dec.{ltb}
 use borrow.Author.Tests.{ltb-true, ltb-false, eqb-true}
 use Rattle.protocol.specs.Lists.{at}
-use Rattle.protocol.specs.Board.{Fits, slots, slot, lineOf, offsetOf, fetchPrice}
-use Rattle.protocol.specs.Tables.{Tables, Sized, counter, block, mark, holdsAt, holds, marked}
+use Rattle.protocol.specs.Board.{Fits, slots, slot, lineOf, blockOf, offsetOf, fetchPrice}
+use Rattle.protocol.specs.Tables.{Tables, Sized, counter, block, mark, holdsAt, holds, sharing, marked}
 use Rattle.protocol.specs.Soundness.{Sound}
 use Rattle.protocol.specs.Rules.{writtenBack, filled, saved, evicted, owner, released, fetched, obtained, payer, broadcast, charged, written}
-use Rattle.protocol.specs.Requests.{served, readied, target, isWrite, variableOf, newValue, Valid}
+use Rattle.protocol.specs.Requests.{servedBy, served, Named, Valid}
 use Rattle.protocol.specs.declared.Setup.{Setup}
 use Rattle.protocol.specs.declared.Block.{Block}
 use Rattle.protocol.specs.declared.Request.{Request}
+use Rattle.protocol.specs.declared.Operation.{Operation}
+use Rattle.protocol.specs.declared.Operation.the-variants.{Read, Write}
 use Rattle.protocol.proofs.Laws.{Same, same, apart, same?, choice, at-set-other}
-use Rattle.protocol.proofs.Board.{block-path, block-number, slot-lt, slot-inj, offset-lt, processor-lt, slot-proper}
-use Rattle.protocol.proofs.Holding.{true-holdsAt, holder-slot, slot-holder, payer-found, payer-none, owner-found, owner-none}
+use Rattle.protocol.proofs.Board.{block-path, block-number, slot-lt, slot-inj, offset-lt, block-lt, processor-lt, slot-proper}
+use Rattle.protocol.proofs.Holding.{true-holdsAt, holder-slot, slot-holder, sharing-none, payer-below, payer-found, owner-found, owner-none}
 use Rattle.protocol.proofs.Lengths.{block-stored, counter-stored, mark-stored, sized-evicted, sized-released}
-use Rattle.protocol.proofs.Requests.{target-lt}
 use Rattle.competitive.proofs.Sound.{sound-writtenBack, sound-emptied, sound-filled, sound-writtenAlone, sound-broadcast, sound-charged}
 
 module _ (s : Setup) (ok : Fits s) (t : Tables) (sd : Sound s t) where
@@ -120,18 +121,19 @@ module _ (s : Setup) (ok : Fits s) (t : Tables) (sd : Sound s t) (i : ℕ) (b : 
           sd .lone m (slot s i b) h (slot-lt s ok i b hi) q (λ x. c (sym x)) (holder-slot s t i b e .0) (holder-slot s t i b e .1 ∙ sym p)
 
   -- no other holder: no other slot has the block
-  pub alone-slots : s .processors ≤ payer s t i b → (m : ℕ) → m < slots s → m ≢ slot s i b → 0 < counter t m → block t m ≢ b
+  pub alone-slots : sharing s t i b ≡ false → (m : ℕ) → m < slots s → m ≢ slot s i b → 0 < counter t m → block t m ≢ b
   alone-slots n m h d l p =
       let g = placed s ok t sd m h l b p in
-      true≢false (sym (g .1) ∙ payer-none s t i b n (m / s .lines) (processor-lt s ok m h) (λ e. d (sym (g .0) ∙ ap (λ z. slot s z b) e)))
+      true≢false (sym (g .1) ∙ sharing-none s t i b n (m / s .lines) (processor-lt s ok m h) (λ e. d (sym (g .0) ∙ ap (λ z. slot s z b) e)))
 
   module _ (o x : ℕ) (ho : o < s .words) (e : holds s t i b ≡ true) where
     -- the broadcast and the payer's slot then
-    pub shared-facts : payer s t i b < s .processors → Broadcasted s (broadcast s t (slot s i b) b o x) (slot s (payer s t i b) b)
+    pub shared-facts : sharing s t i b ≡ true → Broadcasted s (broadcast s t (slot s i b) b o x) (slot s (payer s t i b) b)
     unfolding broadcast
-    shared-facts l =
+    shared-facts c =
+        let l = payer-below s t i b c in
         let k = slot s i b in
-        let a = payer-found s t i b l in
+        let a = payer-found s t i b c in
         let j = payer s t i b in
         let kj = slot s j b in
         let hk = slot-lt s ok i b hi in
@@ -147,7 +149,7 @@ module _ (s : Setup) (ok : Fits s) (t : Tables) (sd : Sound s t) (i : ℕ) (b : 
           clean = un kj hkj (hj .0) (hj .1);
         }
 
-    pub sound-shared : payer s t i b < s .processors → Sound s (charged s (broadcast s t (slot s i b) b o x) (slot s (payer s t i b) b))
+    pub sound-shared : sharing s t i b ≡ true → Sound s (charged s (broadcast s t (slot s i b) b o x) (slot s (payer s t i b) b))
     sound-shared l =
         let w = shared-facts l in
         sound-charged s ok (broadcast s t (slot s i b) b o x) (w .sound) (slot s (payer s t i b) b) (w .slot) (w .holds) (w .clean)
@@ -155,26 +157,21 @@ module _ (s : Setup) (ok : Fits s) (t : Tables) (sd : Sound s t) (i : ℕ) (b : 
     pub sound-written : Sound s (written s t i b o x)
     unfolding written
     sound-written =
-        choice (Sound s) (ltb (payer s t i b) (s .processors))
-        (λ c. sound-shared (ltb-true _ _ c))
+        choice (Sound s) (sharing s t i b)
+        (λ c. sound-shared c)
         (λ c. let hs = holder-slot s t i b e in
         sound-writtenAlone s ok t sd (slot s i b) o x (slot-lt s ok i b hi) (hs .0) ho
-        (λ m u d l. rw (block-number (hs .1)) (alone-slots (ltb-false _ _ c) m u d l)))
+        (λ m u d l. rw (block-number (hs .1)) (alone-slots c m u d l)))
 
 -- ---- requests that 3 and 4 let through
 
--- each of a list
-abbrev pub AllValid : Setup → List Request → Type 0
-AllValid s [] = Unit {0}
-AllValid s (q ∷ qs) = Valid s q × AllValid s qs
+pub sound-servedBy : (s : Setup) (ok : Fits s) (t : Tables) (sd : Sound s t) (i : ℕ) (o : Operation) → i < s .processors → Named s o → Sound s (servedBy s t i o)
+sound-servedBy s ok t sd i (Read v) hi n = sound-obtained s ok t sd i (blockOf s v) hi (block-lt s ok v n)
+sound-servedBy s ok t sd i (Write v x) hi n =
+    let b : Block = blockOf s v in
+    sound-written s ok (obtained s t i b) (sound-obtained s ok t sd i b hi (block-lt s ok v n)) i b hi (offsetOf s v) x (offset-lt s ok v)
+    (obtained-holds s ok t sd i b hi)
 
 pub sound-served : (s : Setup) (ok : Fits s) (t : Tables) (sd : Sound s t) (q : Request) → Valid s q → Sound s (served s t q)
 unfolding served
-sound-served s ok t sd q v =
-    let i = q .processor in
-    let b = target s q in
-    let sd′ : Sound s (readied s t q) = sound-obtained s ok t sd i b (v .processor) (target-lt s ok q v) in
-    choice (Sound s) (isWrite q)
-    (λ e. sound-written s ok (readied s t q) sd′ i b (v .processor) (offsetOf s (variableOf q)) (newValue q) (offset-lt s ok (variableOf q))
-    (obtained-holds s ok t sd i b (v .processor)))
-    (λ e. sd′)
+sound-served s ok t sd q v = sound-servedBy s ok t sd (q .processor) (q .operation) (v .processor) (v .operation)

@@ -2,7 +2,7 @@
 use Prim.Native.Nat.{ℕ, zero, suc, _+_, _-_, _*_, _≤_, _<_}
 use mathlib.Core.Path.{_≡_, refl, sym, ap, _∙_}
 use mathlib.Core.Logic.{_≢_}
-use mathlib.Core.Bool.{Bool, true, false, cond, true≢false}
+use mathlib.Core.Bool.{Bool, true, false, cond}
 use mathlib.Core.List.{List, [], _∷_, _++_}
 use native.Mathlib.Omega.{arith}
 use native.Mathlib.Nat.{mul-suc, suc-mul, one-le-mul, zero-div}
@@ -13,9 +13,9 @@ use borrow.Author.Tests.{lt-ltb, eqb-true, eq-eqb}
 use Rattle.protocol.specs.Lists.{at, part, zeros, tail, other}
 use Rattle.protocol.specs.Refusals.{noRefusal}
 use Rattle.protocol.specs.Board.{inRange, Fits, variables, slots, slot, wordIndex, blockOf, offsetOf, fetchPrice}
-use Rattle.protocol.specs.Tables.{Tables, tables, fresh, holdsAt, holds, marked, memoryWords}
+use Rattle.protocol.specs.Tables.{Tables, tables, fresh, holdsAt, holds, sharing, marked, memoryWords}
 use Rattle.protocol.specs.Rules.{writtenBack, emptied, filled, saved, saveCycles, evicted, owner, released, fetched, obtained, fetchCycles, writeBackCycles, payer, updatedCopies, broadcast, charged, written, updateCycles}
-use Rattle.protocol.specs.Requests.{served, bill, target, isWrite, variableOf, newValue, requestRefusal, requestLimit, Valid}
+use Rattle.protocol.specs.Requests.{Valid, AllValid, served, bill, requestRefusal, requestLimit}
 use Rattle.protocol.specs.Accounts.{cycles, entered, freshAccount}
 use Rattle.protocol.specs.Runs.{walk, run, runRefusal, takenFrom, takenRun, spent}
 use Rattle.protocol.specs.Rival.{Rival, rival, noCopies, keepsAt, keeps, shared, unmarked, rivalFetched, rivalDropped, rivalCompleted, completionCycles, moveRefusal, completionRefusal, Legal, costs}
@@ -30,8 +30,9 @@ use Rattle.protocol.specs.declared.Entry.{Entry}
 use Rattle.protocol.specs.declared.Entry.the-variants.{Fetch, Drop, Complete}
 use Rattle.protocol.proofs.Laws.{Same, same, apart, same?, Under, under, over, under?, choice, other-found, at-set-same, at-set-other, at-set-zero, at-zeros}
 use Rattle.protocol.proofs.Board.{inRange-fits, block-path, slot-lt, slot-inj}
-use Rattle.protocol.proofs.Holding.{holdsAt-true, true-holdsAt, payer-found, payer-none, owner-found}
+use Rattle.protocol.proofs.Holding.{holdsAt-true, true-holdsAt, sharing-some, payer-found, owner-found}
 use Rattle.protocol.proofs.Checked.{sound-passes, sized-passes}
+use Rattle.protocol.proofs.Requests.{variable-passes, named-passes}
 use Rattle.protocol.proofs.Accounts.{is-possible}
 use Rattle.competitive.proofs.StepSound.{AllValid}
 use Rattle.competitive.proofs.Fresh.{sound-fresh}
@@ -164,11 +165,11 @@ module _ (s : Setup) (cs : List ℕ) (i : ℕ) (e : at cs (slot s i block0) ≡ 
   misses = rw e
 
   read-served : served s (zeroed s cs) (readBy i) ≡ zeroed s (set cs (slot s i block0) (fetchPrice s))
-  unfolding served isWrite target blockOf variableOf obtained
+  unfolding served blockOf obtained
   read-served = rw (zero-div (s .words), misses) (refetched-zeroed s cs (slot s i block0))
 
   read-bill : bill s (zeroed s cs) (readBy i) ≡ record { fetch = fetchPrice s; «write_back» = 0; update = 0 }
-  unfolding bill isWrite target blockOf variableOf fetchCycles writeBackCycles saveCycles
+  unfolding bill blockOf fetchCycles writeBackCycles saveCycles
   read-bill = rw (zero-div (s .words), misses, marked-no s cs (slot s i block0))
 
 updatedCopies-zeros : (s : Setup) (cs : List ℕ) (o n : ℕ) → updatedCopies s (zeroed s cs) block0 o 0 n ≡ zeros (slots s * s .words)
@@ -239,31 +240,31 @@ module _ (s : Setup) (ok : Fits s) (two : 2 ≤ s .processors) where
       go (apart p q) (apart g a) =
           absurd (omega (arith, holdsAt-true (zeroed s (pair c)) (slot s j block0) block0 e .0, at-both-other (fetchPrice s) c (slot s j block0) p g))
 
-  payer-found-1 : (c : ℕ) → 0 < c → (payer s (zeroed s (pair c)) 0 block0 ≡ 1) × (ltb (payer s (zeroed s (pair c)) 0 block0) (s .processors) ≡ true)
-  payer-found-1 c h = go (under? (payer s (zeroed s (pair c)) 0 block0) (s .processors))
-    where
-      go : Under (payer s (zeroed s (pair c)) 0 block0) (s .processors)
-          → (payer s (zeroed s (pair c)) 0 block0 ≡ 1) × (ltb (payer s (zeroed s (pair c)) 0 block0) (s .processors) ≡ true)
-      go (under l q) = let a = payer-found s (zeroed s (pair c)) 0 block0 l in (other-is-1 c (payer s (zeroed s (pair c)) 0 block0) (a .passes) (a .differs), q)
-      go (over l q) = absurd (true≢false (sym (holds-1 c h) ∙ payer-none s (zeroed s (pair c)) 0 block0 l 1 two (omega arith)))
+  shared-0 : (c : ℕ) → 0 < c → sharing s (zeroed s (pair c)) 0 block0 ≡ true
+  shared-0 c h = sharing-some s (zeroed s (pair c)) 0 block0 1 two (omega arith) (holds-1 c h)
+
+  payer-is-1 : (c : ℕ) → 0 < c → payer s (zeroed s (pair c)) 0 block0 ≡ 1
+  payer-is-1 c h =
+      let a = payer-found s (zeroed s (pair c)) 0 block0 (shared-0 c h) in
+      other-is-1 c (payer s (zeroed s (pair c)) 0 block0) (a .passes) (a .differs)
 
   -- a write by 0 costs 1 and lowers copy 1's counter
   write-served : (c : ℕ) → 0 < c → served s (zeroed s (pair c)) write0 ≡ zeroed s (pair (c - 1))
-  unfolding served isWrite target blockOf variableOf newValue obtained written
+  unfolding served blockOf obtained written
   write-served c h =
       rw (
         zero-div (s .words),
         holds-0 c,
-        payer-found-1 c h .1,
-        payer-found-1 c h .0,
+        shared-0 c h,
+        payer-is-1 c h,
         broadcast-zeroed s (pair c) (slot0 s) (offsetOf s variable0) (at-both-0 (fetchPrice s) c),
       )
       (charged-zeroed s (pair c) (slot1 s)
       ∙ ap (zeroed s) (set-set (only0 s (fetchPrice s)) (slot1 s) c (at (pair c) (slot1 s) - 1) ∙ ap pair (ap (λ x. x - 1) (at-both-1 (fetchPrice s) c))))
 
   write-bill : (c : ℕ) → 0 < c → bill s (zeroed s (pair c)) write0 ≡ record { fetch = 0; «write_back» = 0; update = 1 }
-  unfolding bill isWrite target blockOf variableOf fetchCycles writeBackCycles updateCycles obtained
-  write-bill c h = rw (zero-div (s .words), holds-0 c, payer-found-1 c h .1)
+  unfolding bill blockOf fetchCycles writeBackCycles updateCycles obtained
+  write-bill c h = rw (zero-div (s .words), holds-0 c, shared-0 c h)
 
   -- a read by 1 without its copy
   reread-served : served s (zeroed s (pair 0)) (readBy 1) ≡ zeroed s (pair (fetchPrice s))
@@ -331,17 +332,17 @@ module _ (s : Setup) (ok : Fits s) where
 
   plays-read : (r : Rival) (i : ℕ) (qs : List Request) (es : List Entry) (c : ℕ) → i < s .processors → keeps s r i block0 ≡ true
       → Plays s (rivalCompleted s r (readBy i)) qs es c → Plays s r (readBy i ∷ qs) (Complete ∷ es) c
-  unfolding completionRefusal completionCycles target blockOf variableOf isWrite
+  unfolding completionRefusal completionCycles blockOf
   plays-read r i qs es c h k p = record {
-    legal = (rw (lt-ltb i (s .processors) h, lt-ltb 0 (variables s) block-0, zero-div (s .words), k) refl, p .legal);
+    legal = (rw (lt-ltb i (s .processors) h, variable-passes s variable0 _ block-0, zero-div (s .words), k) refl, p .legal);
     costs = omega (arith, p .costs);
   }
 
   plays-write : (r : Rival) (qs : List Request) (es : List Entry) (c : ℕ) → keeps s r 0 block0 ≡ true → shared s r 0 block0 ≡ false
       → Plays s (rivalCompleted s r write0) qs es c → Plays s r (write0 ∷ qs) (Complete ∷ es) c
-  unfolding completionRefusal completionCycles target blockOf variableOf isWrite
+  unfolding completionRefusal completionCycles blockOf
   plays-write r qs es c k n p = record {
-    legal = (rw (lt-ltb 0 (s .processors) (ok .some-processor), lt-ltb 0 (variables s) block-0, zero-div (s .words), k) refl, p .legal);
+    legal = (rw (lt-ltb 0 (s .processors) (ok .some-processor), variable-passes s variable0 _ block-0, zero-div (s .words), k) refl, p .legal);
     costs = rw (zero-div (s .words), n) (omega (arith, p .costs));
   }
 
@@ -405,7 +406,7 @@ module _ (s : Setup) (ok : Fits s) (two : 2 ≤ s .processors) where
 
   plays-rounds : (k : ℕ) (m : List ℕ) → at m (slot1 s) ≡ 0
       → Plays s (doubled 1 m) (rounds (fetchPrice s) k) (scheduleRounds (fetchPrice s) k) (fetchPrice s * k)
-  unfolding rivalCompleted isWrite
+  unfolding rivalCompleted
   plays-rounds zero m e = record { legal = refl; costs = omega arith }
   plays-rounds (suc k) m e =
       let f : ℕ = fetchPrice s in
@@ -441,7 +442,7 @@ module _ (s : Setup) (ok : Fits s) (two : 2 ≤ s .processors) where
   )
 
   pub tight-plays : (k : ℕ) → Plays s (noCopies s) (tight s k) (tightSchedule s k) (2 * fetchPrice s + fetchPrice s * k)
-  unfolding tight tightSchedule noCopies rivalCompleted isWrite
+  unfolding tight tightSchedule noCopies rivalCompleted
   tight-plays k =
       let f : ℕ = fetchPrice s in
       let a = rivalFetched-0 in
@@ -460,7 +461,7 @@ module _ (s : Setup) (ok : Fits s) (two : 2 ≤ s .processors) where
 valid-refusal : (s : Setup) (n : ℕ) (q : Request) → Valid s q → n < requestLimit → requestRefusal s n q ≡ 0
 unfolding requestRefusal
 valid-refusal s n q v l =
-    rw (lt-ltb (q .processor) (s .processors) (v .processor), lt-ltb (variableOf q .0) (variables s) (v .variable), lt-ltb n requestLimit l) refl
+    rw (lt-ltb (q .processor) (s .processors) (v .processor), lt-ltb n requestLimit l) (named-passes s (q .operation) noRefusal (v .operation))
 
 -- nothing is refused
 pub walk-whole : (s : Setup) (t : Tables) (a : Account) (qs : List Request) (vs : List ℕ) → AllValid s qs → a .requests + length qs ≤ requestLimit
@@ -478,12 +479,10 @@ taken-whole s n (q ∷ qs) v l =
 
 module _ (s : Setup) (ok : Fits s) (two : 2 ≤ s .processors) where
   valid-read : (i : ℕ) → i < s .processors → Valid s (readBy i)
-  unfolding variableOf
-  valid-read i h = record { processor = h; variable = block-0 s ok }
+  valid-read i h = record { processor = h; operation = block-0 s ok }
 
   valid-write : Valid s write0
-  unfolding variableOf
-  valid-write = record { processor = ok .some-processor; variable = block-0 s ok }
+  valid-write = record { processor = ok .some-processor; operation = block-0 s ok }
 
   valid-writes : (n : ℕ) (qs : List Request) → AllValid s qs → AllValid s (replicate n write0 ++ qs)
   valid-writes zero qs v = v

@@ -2,33 +2,34 @@
 use Prim.Native.Nat.{ℕ, _-_, _*_, _≤_, _<_}
 use mathlib.Core.Path.{_≡_, refl, sym, ap, _∙_}
 use mathlib.Core.Logic.{_≢_}
-use mathlib.Core.Bool.{Bool, true, false, _&&_, cond}
+use mathlib.Core.Bool.{true, false, _&&_, cond}
 use mathlib.Core.List.{List, [], _∷_}
 use native.Mathlib.Omega.{arith}
 use lib.ListN.{set}
 use lib.Dec.{ltb, eqb}
-use borrow.Author.Tests.{ltb-true, ltb-false, eqb-true, eqb-false, eq-eqb}
+use borrow.Author.Tests.{ltb-true, eqb-true, eqb-false, eq-eqb}
 use Rattle.protocol.specs.Lists.{at}
 use Rattle.protocol.specs.Board.{Fits, variables, slots, slot, blockOf, offsetOf, wordIndex, memoryIndex, fetchPrice}
-use Rattle.protocol.specs.Tables.{Tables, fresh, counter, block, mark, word, memoryWord, holds, marked}
+use Rattle.protocol.specs.Tables.{Tables, fresh, counter, block, mark, word, memoryWord, holds, sharing, marked}
 use Rattle.protocol.specs.Soundness.{Sound}
 use Rattle.protocol.specs.Rules.{writtenBack, emptied, filled, saved, evicted, owner, released, fetched, obtained, payer, writtenAlone, broadcast, charged, written}
-use Rattle.protocol.specs.Requests.{served, readied, value, target, isWrite, variableOf, newValue, Valid}
+use Rattle.protocol.specs.Requests.{Named, Valid, AllValid, servedBy, served, valueBy}
 use Rattle.protocol.specs.Runs.{servedAll}
-use Rattle.competitive.specs.Claims.{lastWritten}
+use Rattle.competitive.specs.Claims.{newer, lastWritten, expectedValue}
 use Rattle.protocol.specs.declared.Setup.{Setup}
 use Rattle.protocol.specs.declared.Variable.{Variable}
 use Rattle.protocol.specs.declared.Block.{Block}
 use Rattle.protocol.specs.declared.Request.{Request}
+use Rattle.protocol.specs.declared.Operation.{Operation}
+use Rattle.protocol.specs.declared.Operation.the-variants.{Read, Write}
 use Rattle.protocol.proofs.Laws.{Same, same, apart, same?, choice, at-set-same, at-set-other, at-set-zero, at-zeros}
-use Rattle.protocol.proofs.Board.{block-path, block-number, variable-path, SameBlock, one, two, same-block?, same-variable, slot-lt, wordIndex-inj, wordIndex-lt, offset-lt}
+use Rattle.protocol.proofs.Board.{block-path, block-number, variable-path, SameBlock, one, two, same-block?, same-variable, slot-lt, wordIndex-inj, wordIndex-lt, offset-lt, block-lt}
 use Rattle.protocol.proofs.Holding.{holder-slot, owner-found}
 use Rattle.protocol.proofs.Lengths.{counter-stored, block-stored, mark-stored}
-use Rattle.protocol.proofs.Requests.{target-lt}
 use Rattle.competitive.proofs.Sound.{writtenBack-memory-same, writtenBack-memory-other, emptied-word-other, filled-word-same, filled-word-other, broadcast-word-out, broadcast-word-in, broadcast-memory-same, broadcast-memory-other}
 use Rattle.competitive.proofs.StepSound.{sound-saved, sound-evicted, sound-released, released-unmarked, sound-obtained, obtained-holds, alone-slots, shared-facts, AllValid, sound-served}
 use Rattle.competitive.proofs.Fresh.{sound-fresh}
-use Rattle.competitive.proofs.Bound.{released-counters}
+use Rattle.competitive.proofs.Bound.{released-counters, evicted-zero}
 
 -- word o of block b is x: in every copy, and in memory where no copy is marked
 pub record Has (s : Setup) (t : Tables) (b : Block) (o x : ℕ) : Type 0 where
@@ -196,10 +197,6 @@ module _ (s : Setup) (ok : Fits s) (t : Tables) (sd : Sound s t) (b : Block) (o 
       go2 n (two p) c =
           broadcast-memory-other s ok t sd k b₀ o₀ v b o ho₀ ho (λ y. absurd (p y)) ∙ has .memory n ∙ sym (over-other b₀ o₀ v b o x (λ y. absurd (p y)))
 
-pub evicted-zero : (s : Setup) (t : Tables) (k : ℕ) → counter (evicted s t k) k ≡ 0
-unfolding evicted emptied
-evicted-zero s t k = at-set-zero (saved s t k .counters) k
-
 module _ (s : Setup) (ok : Fits s) (t : Tables) (sd : Sound s t) (b : Block) (o x : ℕ) (ho : o < s .words) (has : Has s t b o x) (i : ℕ) (c : Block)
     (hi : i < s .processors) (hc : c .0 < s .blocks) where
   has-obtained : Has s (obtained s t i c) b o x
@@ -237,8 +234,8 @@ module _ (s : Setup) (ok : Fits s) (t : Tables) (sd : Sound s t) (b : Block) (o 
   has-written : (o₀ v : ℕ) → o₀ < s .words → holds s t i c ≡ true → Has s (written s t i c o₀ v) b o (overwritten c o₀ v b o x)
   unfolding written
   has-written o₀ v ho₀ e =
-      choice (λ z. Has s z b o (overwritten c o₀ v b o x)) (ltb (payer s t i c) (s .processors))
-      (λ q. shared-part (ltb-true _ _ q)) (λ q. alone-part (ltb-false _ _ q))
+      choice (λ z. Has s z b o (overwritten c o₀ v b o x)) (sharing s t i c)
+      (λ q. shared-part q) (λ q. alone-part q)
     where
       k : ℕ
       k = slot s i c
@@ -249,12 +246,12 @@ module _ (s : Setup) (ok : Fits s) (t : Tables) (sd : Sound s t) (b : Block) (o 
       hs : (0 < counter t k) × (block t k ≡ c)
       hs = holder-slot s t i c e
 
-      alone-part : s .processors ≤ payer s t i c → Has s (writtenAlone s t k o₀ v) b o (overwritten c o₀ v b o x)
+      alone-part : sharing s t i c ≡ false → Has s (writtenAlone s t k o₀ v) b o (overwritten c o₀ v b o x)
       alone-part l =
           rw (block-number (hs .1)) at
           (has-writtenAlone s ok t sd b o x ho has k o₀ v hk ho₀ (λ m u d z y. alone-slots s ok t sd i c hi l m u d z (y ∙ hs .1)) (hs .0))
 
-      shared-part : payer s t i c < s .processors → Has s (charged s (broadcast s t k c o₀ v) (slot s (payer s t i c) c)) b o (overwritten c o₀ v b o x)
+      shared-part : sharing s t i c ≡ true → Has s (charged s (broadcast s t k c o₀ v) (slot s (payer s t i c) c)) b o (overwritten c o₀ v b o x)
       shared-part l =
           let w = shared-facts s ok t sd i c hi o₀ v ho₀ e l in
           has-charged s ok (broadcast s t k c o₀ v) (w .sound) b o (overwritten c o₀ v b o x) ho
@@ -262,76 +259,55 @@ module _ (s : Setup) (ok : Fits s) (t : Tables) (sd : Sound s t) (b : Block) (o 
 
 -- ---- one request
 
--- the value of variable v after a request, x before it
-unfoldable pub newer : Request → Variable → ℕ → ℕ
-newer q v x = cond (isWrite q && eqb (variableOf q .0) (v .0)) (newValue q) x
-
 -- variable v has the value x
 abbrev pub Stores : Setup → Tables → Variable → ℕ → Type 0
 Stores s t v x = Has s t (blockOf s v) (offsetOf s v) x
 
-over-newer : (s : Setup) (q : Request) (v : Variable) (x : ℕ) → isWrite q ≡ true
-    → overwritten (target s q) (offsetOf s (variableOf q)) (newValue q) (blockOf s v) (offsetOf s v) x ≡ newer q v x
-unfolding newer target
-over-newer s q v x e = rw e (go (same? (variableOf q .0) (v .0)))
+-- y is written to variable w
+over-newer : (s : Setup) (w : Variable) (y : ℕ) (v : Variable) (x : ℕ)
+    → overwritten (blockOf s w) (offsetOf s w) y (blockOf s v) (offsetOf s v) x ≡ newer (Write w y) v x
+over-newer s w y v x = go (same? (w .0) (v .0))
   where
-    w : Variable
-    w = variableOf q
-
-    go : Same (variableOf q .0) (v .0)
-        → overwritten (blockOf s w) (offsetOf s w) (newValue q) (blockOf s v) (offsetOf s v) x ≡ cond (eqb (variableOf q .0) (v .0)) (newValue q) x
+    go : Same (w .0) (v .0) → overwritten (blockOf s w) (offsetOf s w) y (blockOf s v) (offsetOf s v) x ≡ cond (eqb (w .0) (v .0)) y x
     go (same p a) =
-        let y : v ≡ variableOf q = variable-path (sym p) in
-        over-same (blockOf s w) (offsetOf s w) (newValue q) (blockOf s v) (offsetOf s v) x (ap (blockOf s) y) (ap (offsetOf s) y) ∙ rw a
+        let z : v ≡ w = variable-path (sym p) in
+        over-same (blockOf s w) (offsetOf s w) y (blockOf s v) (offsetOf s v) x (ap (blockOf s) z) (ap (offsetOf s) z) ∙ rw a
     go (apart p a) =
-        over-other (blockOf s w) (offsetOf s w) (newValue q) (blockOf s v) (offsetOf s v) x
-        (λ y z. p (ap (λ (z : Variable). z .0) (sym (same-variable s v (variableOf q) y z)))) ∙ rw a
+        over-other (blockOf s w) (offsetOf s w) y (blockOf s v) (offsetOf s v) x
+        (λ y z. p (ap (λ (z : Variable). z .0) (sym (same-variable s v w y z)))) ∙ rw a
 
-module _ (s : Setup) (ok : Fits s) (t : Tables) (sd : Sound s t) (q : Request) (va : Valid s q) where
-  hb : target s q .0 < s .blocks
-  hb = target-lt s ok q va
+module _ (s : Setup) (ok : Fits s) (t : Tables) (sd : Sound s t) (i : ℕ) (hi : i < s .processors) where
+  stores-obtained : (w : Variable) → w .0 < variables s → (v : Variable) (x : ℕ) → Stores s t v x → Stores s (obtained s t i (blockOf s w)) v x
+  stores-obtained w n v x has =
+      has-obtained s ok t sd (blockOf s v) (offsetOf s v) x (offset-lt s ok v) has i (blockOf s w) hi (block-lt s ok w n)
 
-  sd′ : Sound s (readied s t q)
-  sd′ = sound-obtained s ok t sd (q .processor) (target s q) (va .processor) hb
-
-  has′ : (v : Variable) (x : ℕ) → Stores s t v x → Stores s (readied s t q) v x
-  has′ v x has = has-obtained s ok t sd (blockOf s v) (offsetOf s v) x (offset-lt s ok v) has (q .processor) (target s q) (va .processor) hb
-
-  pub stores-served : (v : Variable) (x : ℕ) → Stores s t v x → Stores s (served s t q) v (newer q v x)
-  unfolding served
-  stores-served v x has = go (isWrite q) refl
-    where
-      o : ℕ
-      o = offsetOf s (variableOf q)
-
-      go : (c : Bool) → isWrite q ≡ c
-          → Stores s (cond c (written s (readied s t q) (q .processor) (target s q) (offsetOf s (variableOf q)) (newValue q)) (readied s t q)) v (newer q v x)
-      go true e =
-          rw (over-newer s q v x e) at
-          (has-written s ok (readied s t q) sd′ (blockOf s v) (offsetOf s v) x (offset-lt s ok v) (has′ v x has) (q .processor) (target s q)
-          (va .processor) hb o (newValue q) (offset-lt s ok (variableOf q)) (obtained-holds s ok t sd (q .processor) (target s q) (va .processor)))
-      go false e = let z : newer q v x ≡ x = unfold newer in (rw e) in rw z (has′ v x has)
+  stores-servedBy : (o : Operation) → Named s o → (v : Variable) (x : ℕ) → Stores s t v x → Stores s (servedBy s t i o) v (newer o v x)
+  stores-servedBy (Read w) n v x has = stores-obtained w n v x has
+  stores-servedBy (Write w y) n v x has =
+      let b : Block = blockOf s w in
+      rw (over-newer s w y v x) at
+      (has-written s ok (obtained s t i b) (sound-obtained s ok t sd i b hi (block-lt s ok w n)) (blockOf s v) (offsetOf s v) x (offset-lt s ok v)
+      (stores-obtained w n v x has) i b hi (block-lt s ok w n) (offsetOf s w) y (offset-lt s ok w) (obtained-holds s ok t sd i b hi))
 
   -- a read supplies it
-  pub read-value : (x : ℕ) → isWrite q ≡ false → Stores s t (variableOf q) x → value s t q ≡ x
-  unfolding value
-  read-value x e has =
-      rw e (has′ (variableOf q) x has .copies (slot s (q .processor) (target s q)) (slot-lt s ok (q .processor) (target s q) (va .processor)) (h .0) found)
-    where
-      h : (0 < counter (readied s t q) (slot s (q .processor) (target s q))) × (block (readied s t q) (slot s (q .processor) (target s q)) ≡ target s q)
-      h = holder-slot s (readied s t q) (q .processor) (target s q) (obtained-holds s ok t sd (q .processor) (target s q) (va .processor))
+  pub read-value : (v : Variable) (x : ℕ) → v .0 < variables s → Stores s t v x → valueBy s t i (Read v) ≡ x
+  read-value v x n has =
+      let b : Block = blockOf s v in
+      let h = holder-slot s (obtained s t i b) i b (obtained-holds s ok t sd i b hi) in
+      stores-obtained v n v x has .copies (slot s i b) (slot-lt s ok i b hi) (h .0) (h .1)
 
-      found : block (readied s t q) (slot s (q .processor) (target s q)) ≡ blockOf s (variableOf q)
-      found = h .1 ∙ unfold target in refl
+pub stores-served : (s : Setup) (ok : Fits s) (t : Tables) (sd : Sound s t) (q : Request) → Valid s q → (v : Variable) (x : ℕ) → Stores s t v x
+    → Stores s (served s t q) v (newer (q .operation) v x)
+unfolding served
+stores-served s ok t sd q va v x has = stores-servedBy s ok t sd (q .processor) (va .processor) (q .operation) (va .operation) v x has
 
 -- ---- a list of requests
 
 pub stores-list : (s : Setup) (ok : Fits s) (t : Tables) (sd : Sound s t) (qs : List Request) → AllValid s qs → (v : Variable) (x : ℕ) → Stores s t v x
     → Sound s (servedAll s t qs) × Stores s (servedAll s t qs) v (lastWritten qs v x)
-unfolding newer
 stores-list s ok t sd [] va v x h = (sd, h)
 stores-list s ok t sd (q ∷ qs) va v x h =
-    stores-list s ok (served s t q) (sound-served s ok t sd q (va .0)) qs (va .1) v (newer q v x) (stores-served s ok t sd q (va .0) v x h)
+    stores-list s ok (served s t q) (sound-served s ok t sd q (va .0)) qs (va .1) v (newer (q .operation) v x) (stores-served s ok t sd q (va .0) v x h)
 
 stores-fresh : (s : Setup) (v : Variable) → Stores s (fresh s) v 0
 unfolding fresh
@@ -340,9 +316,10 @@ stores-fresh s v = record {
   memory = λ un. at-zeros (variables s) (memoryIndex s (blockOf s v) (offsetOf s v));
 }
 
--- a read after any requests from fresh tables supplies the last value written to its variable, 0 if none was
-pub last-value : (s : Setup) (ok : Fits s) (qs : List Request) (q : Request) → AllValid s qs → Valid s q → isWrite q ≡ false
-    → value s (servedAll s (fresh s) qs) q ≡ lastWritten qs (variableOf q) 0
-last-value s ok qs q va v e =
-    let h = stores-list s ok (fresh s) (sound-fresh s) qs va (variableOf q) 0 (stores-fresh s (variableOf q)) in
-    read-value s ok (servedAll s (fresh s) qs) (h .0) q v (lastWritten qs (variableOf q) 0) e (h .1)
+-- after any requests from fresh tables a read supplies the last value written to its variable, 0 if none was
+pub last-value : (s : Setup) (ok : Fits s) (ps : List Request) (i : ℕ) (o : Operation) → AllValid s ps → i < s .processors → Named s o
+    → valueBy s (servedAll s (fresh s) ps) i o ≡ expectedValue ps o
+last-value s ok ps i (Read v) va hi n =
+    let h = stores-list s ok (fresh s) (sound-fresh s) ps va v 0 (stores-fresh s v) in
+    read-value s ok (servedAll s (fresh s) ps) (h .0) i hi v (lastWritten ps v 0) n (h .1)
+last-value s ok ps i (Write v x) va hi n = refl

@@ -2,7 +2,7 @@
 use Prim.Native.Nat.{ℕ, _+_, _*_, _≤_}
 use mathlib.Core.Path.{_≡_}
 use mathlib.Core.Logic.{_≢_}
-use mathlib.Core.Bool.{true, _&&_, cond}
+use mathlib.Core.Bool.{true, cond}
 use mathlib.Core.List.{List, [], _∷_, _++_}
 use lib.ListN.{length}
 use lib.Dec.{eqb}
@@ -10,7 +10,7 @@ use Rattle.protocol.specs.Lists.{tail}
 use Rattle.protocol.specs.Refusals.{noRefusal, unsoundTables, impossibleAccount}
 use Rattle.protocol.specs.Board.{fetchPrice}
 use Rattle.protocol.specs.Tables.{fresh}
-use Rattle.protocol.specs.Requests.{isWrite, variableOf, newValue, requestRefusal, requestLimit}
+use Rattle.protocol.specs.Requests.{requestRefusal, requestLimit}
 use Rattle.protocol.specs.Accounts.{cycles, freshAccount, cyclesOf, possible}
 use Rattle.protocol.specs.Runs.{Outcome, run, Run, State, outcomes, runs, takenRun, takenAll, spent}
 use Rattle.protocol.specs.Rival.{Rival, noCopies, Legal, costs, lastCopies}
@@ -19,6 +19,8 @@ use Rattle.competitive.specs.EngineSchedule.{EngineIsRival}
 use Rattle.protocol.specs.declared.Setup.{Setup}
 use Rattle.protocol.specs.declared.Variable.{Variable}
 use Rattle.protocol.specs.declared.Request.{Request}
+use Rattle.protocol.specs.declared.Operation.{Operation}
+use Rattle.protocol.specs.declared.Operation.the-variants.{Read, Write}
 use Rattle.protocol.specs.declared.Account.{Account}
 use Rattle.protocol.specs.declared.Entry.{Entry}
 use Rattle.protocol.specs.declared.PriceAnswer.the-variants.{Accepted, Refused}
@@ -59,20 +61,26 @@ pub record Demand3 (s : Setup) : Type 0 where
 
 -- ---- demand 2: "From fresh tables a read supplies the last value written, or 0." No cache is spoken of
 
+-- the value of variable v after an operation, x before it
+abbrev pub newer : Operation → Variable → ℕ → ℕ
+newer (Read w) v x = x
+newer (Write w y) v x = cond (eqb (w .0) (v .0)) y x
+
 -- the last value written to variable v by the requests, x if none was
 abbrev pub lastWritten : List Request → Variable → ℕ → ℕ
 lastWritten [] v x = x
-lastWritten (q ∷ qs) v x = lastWritten qs v (cond (isWrite q && eqb (variableOf q .0) (v .0)) (newValue q) x)
+lastWritten (q ∷ qs) v x = lastWritten qs v (newer (q .operation) v x)
 
--- what a request supplies or writes, where ps were taken before it
-abbrev pub expectedValue : List Request → Request → ℕ
-expectedValue ps q = cond (isWrite q) (newValue q) (lastWritten ps (variableOf q) 0)
+-- what an operation supplies or writes, where ps were taken before it
+abbrev pub expectedValue : List Request → Operation → ℕ
+expectedValue ps (Read v) = lastWritten ps v 0
+expectedValue ps (Write v x) = x
 
 -- the values of one list of requests, where n requests count and ps were taken before; from a refused one on as they were lent
 abbrev pub expectedFrom : Setup → ℕ → List Request → List Request → List ℕ → List ℕ
 expectedFrom s n ps [] vs = vs
 expectedFrom s n ps (q ∷ qs) vs =
-    cond (eqb (requestRefusal s n q) noRefusal) (expectedValue ps q ∷ expectedFrom s (n + 1) (ps ++ q ∷ []) qs (tail vs)) vs
+    cond (eqb (requestRefusal s n q) noRefusal) (expectedValue ps (q .operation) ∷ expectedFrom s (n + 1) (ps ++ q ∷ []) qs (tail vs)) vs
 
 -- of a run: as lent if 2 refuses it
 unfoldable pub expectedRun : Setup → ℕ → List Request → Run → List ℕ

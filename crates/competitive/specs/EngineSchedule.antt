@@ -5,15 +5,17 @@ use mathlib.Core.Bool.{_&&_, cond}
 use mathlib.Core.List.{List, [], _∷_, _++_}
 use lib.Dec.{ltb, eqb}
 use Rattle.protocol.specs.Lists.{at}
-use Rattle.protocol.specs.Board.{slots, slot}
-use Rattle.protocol.specs.Tables.{Tables, fresh, counter, block, mark, holds, marked}
-use Rattle.protocol.specs.Rules.{payer}
-use Rattle.protocol.specs.Requests.{isWrite, target, readied, served}
+use Rattle.protocol.specs.Board.{slots, slot, blockOf}
+use Rattle.protocol.specs.Tables.{Tables, fresh, counter, block, mark, holds, sharing, marked}
+use Rattle.protocol.specs.Rules.{obtained, payer}
+use Rattle.protocol.specs.Requests.{served}
 use Rattle.protocol.specs.Runs.{servedAll, spent}
 use Rattle.protocol.specs.Rival.{Rival, noCopies, Legal, costs, lastCopies}
 use Rattle.protocol.specs.declared.Setup.{Setup}
 use Rattle.protocol.specs.declared.Block.{Block}
 use Rattle.protocol.specs.declared.Request.{Request}
+use Rattle.protocol.specs.declared.Operation.{Operation}
+use Rattle.protocol.specs.declared.Operation.the-variants.{Read, Write}
 use Rattle.protocol.specs.declared.Entry.{Entry}
 use Rattle.protocol.specs.declared.Entry.the-variants.{Fetch, WriteBack, Drop, Complete}
 
@@ -34,14 +36,16 @@ obtaining s t i b = cond (holds s t i b) [] (evicting t i (slot s i b) ++ Fetch 
 -- rule 5, once processor i's write is completed: the payer drops block b if its counter was 1
 unfoldable pub paying : Setup → Tables → ℕ → Block → List Entry
 paying s t i b =
-    cond (ltb (payer s t i b) (s .processors) && eqb (counter t (slot s (payer s t i b) b)) 1)
+    cond (sharing s t i b && eqb (counter t (slot s (payer s t i b) b)) 1)
     (Drop (payer s t i b) b ∷ []) []
 
--- one request: the block is obtained, the request completed, and the payer pays for a write
+-- processor i's operation: the block is obtained, the request completed, and the payer pays for a write
+abbrev pub servingBy : Setup → Tables → ℕ → Operation → List Entry
+servingBy s t i (Read v) = obtaining s t i (blockOf s v) ++ Complete ∷ []
+servingBy s t i (Write v x) = obtaining s t i (blockOf s v) ++ Complete ∷ paying s (obtained s t i (blockOf s v)) i (blockOf s v)
+
 unfoldable pub serving : Setup → Tables → Request → List Entry
-serving s t q =
-    obtaining s t (q .processor) (target s q)
-    ++ Complete ∷ cond (isWrite q) (paying s (readied s t q) (q .processor) (target s q)) []
+serving s t q = servingBy s t (q .processor) (q .operation)
 
 -- ---- and for a list of requests, in order
 

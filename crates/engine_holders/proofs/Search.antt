@@ -13,28 +13,6 @@ use Rattle.protocol.specs.declared.Setup.{Setup}
 use Rattle.protocol.specs.declared.Block.{Block}
 use Rattle.engine_holders.specs.Places.{otherHolds, owns}
 
-left-suc : (n j : ℕ) → j < n → n - j ≡ suc (n - (j + 1))
-left-suc n j h = omega arith
-
-left-none : (n j : ℕ) → n ≤ j → n - j ≡ 0
-left-none n j h = omega arith
-
-module _ (P : ℕ → Bool) where
-  pub started : (n : ℕ) → firstFrom (n - 0) 0 P ≡ first n P
-  unfolding first
-  started n = rw sub-zero
-
-  -- in the loop r is what the test of j gives, and x what the whole search finds
-  module _ (n j x : ℕ) (whole : firstFrom (n - j) j P ≡ x) where
-    pub found : (r : Bool) → j < n → r ≡ P j → r ≡ true → j ≡ x
-    found r h e t = sym (rw (left-suc n j h, sym e ∙ t)) ∙ whole
-
-    pub passed : (r : Bool) → j < n → r ≡ P j → r ≡ false → firstFrom (n - (j + 1)) (j + 1) P ≡ x
-    passed r h e t = sym (rw (left-suc n j h, sym e ∙ t, add-one j)) ∙ whole
-
-    pub ended : n ≤ j → j ≡ x
-    ended h = sym (rw (left-none n j h)) ∙ whole
-
 -- ---- the two searches
 
 module _ (s : Setup) (t : Tables) (b : Block) where

@@ -7,17 +7,18 @@ use native.Mathlib.Omega.{arith}
 use native.Mathlib.Nat.{mod-lt, mul-le-mul, mul-le-mul-right, suc-mul, div-lt-iff-lt-mul, mul-add-mod-self-right, mod-eq-of-lt, mul-add-div-right, div-eq-of-lt, add-zero, div-add-mod'}
 use lib.Dec.{leb}
 use borrow.Author.Tests.{leb-true}
-use Rattle.protocol.specs.Board.{inRange, Fits, variables, slots, slot, wordIndex, blockOf, offsetOf, lineOf, fetchPrice, writeBackPrice}
+use Rattle.protocol.specs.Refusals.{noRefusal, setupOutOfRange}
+use Rattle.protocol.specs.Board.{inRange, setupRefusal, Fits, variables, slots, lineSlot, slot, wordIndex, blockOf, offsetOf, lineOf, fetchPrice, writeBackPrice, mostWriteBack}
 use Rattle.protocol.specs.declared.Setup.{Setup}
 use Rattle.protocol.specs.declared.Variable.{Variable}
 use Rattle.protocol.specs.declared.Block.{Block}
-use Rattle.protocol.proofs.Laws.{both-true, Same, same, apart, same?}
+use Rattle.protocol.proofs.Laws.{both-true, chosen-zero, Same, same, apart, same?}
 
 -- ---- the range
 
-pub inRange-fits : (s : Setup) → inRange s ≡ true → Fits s
-unfolding inRange fetchPrice writeBackPrice
-inRange-fits s e =
+in-range-fits : (s : Setup) → inRange s ≡ true → Fits s
+unfolding inRange fetchPrice writeBackPrice mostWriteBack
+in-range-fits s e =
     let e1 = both-true _ _ e in
     let e2 = both-true _ _ (e1 .0) in
     let e3 = both-true _ _ (e2 .0) in
@@ -39,7 +40,12 @@ inRange-fits s e =
       some-fetch = p1;
       few-fetch = p2;
       write-back-le-fetch = omega arith;
+      few-write-back = p2;
     }
+
+pub setup-fits : (s : Setup) → setupRefusal s ≡ noRefusal → Fits s
+unfolding setupRefusal
+setup-fits s e = in-range-fits s (chosen-zero (inRange s) noRefusal setupOutOfRange (omega arith) e .0)
 
 -- ---- rows of width n: row i, column x
 
@@ -97,6 +103,10 @@ module _ (s : Setup) (ok : Fits s) where
 
   pub few-variables : variables s ≤ 4096
   few-variables = mul-le-mul (ok .few-blocks) (ok .few-words)
+
+  pub lineSlot-lt : (i l : ℕ) → i < s .processors → l < s .lines → lineSlot s i l < slots s
+  unfolding slots
+  lineSlot-lt i l h u = row-lt i (s .processors) (s .lines) l h u
 
   pub slot-lt : (i : ℕ) (b : Block) → i < s .processors → slot s i b < slots s
   unfolding slot slots

@@ -2,20 +2,20 @@
 use Prim.Native.Nat.{ℕ, _+_, _*_, _/_, _%_, _≤_, _<_}
 use mathlib.Core.Path.{_≡_, refl, sym, ap, _∙_}
 use mathlib.Core.Logic.{_≢_}
-use mathlib.Core.Bool.{Bool, true, true≢false}
+use mathlib.Core.Bool.{Bool, true, false, not, true≢false}
 use native.Mathlib.Omega.{arith}
 use native.Mathlib.Nat.{mod-lt, div-add-mod'}
 use lib.Dec.{leb, ltb, eqb}
-use borrow.Author.Tests.{ltb-true, leb-true, eqb-true, eqb-false, lt-ltb, le-leb, eq-eqb, ne-eqb}
-use Rattle.protocol.specs.Lists.{at, all, other}
+use borrow.Author.Tests.{not-true, ltb-true, leb-true, eqb-true, eqb-false, lt-ltb, le-leb, eq-eqb, ne-eqb}
+use Rattle.protocol.specs.Lists.{at, all}
 use Rattle.protocol.specs.Board.{Fits, slots, slot, lineOf, fetchPrice}
-use Rattle.protocol.specs.Tables.{Tables, Sized, sized, counter, block, mark, word, memoryWord, holds}
-use Rattle.protocol.specs.Soundness.{LineAt, Sound, emptyLine, copyLine, soundLine, sound}
+use Rattle.protocol.specs.Tables.{Tables, Sized, sized, counter, block, mark, word, memoryWord, holds, sharing}
+use Rattle.protocol.specs.Soundness.{SlotSoundAt, Sound, emptyLine, copyLine, soundLine, sound}
 use Rattle.protocol.specs.declared.Setup.{Setup}
 use Rattle.protocol.specs.declared.Block.{Block}
-use Rattle.protocol.proofs.Laws.{Same, same, apart, same?, Under, under, over, under?, choice, chosen, both-true, three-true, four-true, and-true, all-true, true-all, other-found, other-none}
+use Rattle.protocol.proofs.Laws.{Same, same, apart, same?, Known, sure, not-so, known, choice, chosen, both-true, three-true, four-true, and-true, all-true, true-all}
 use Rattle.protocol.proofs.Board.{row-lt, row-mod, slot-lt, slot-inj, slot-of, processor-lt}
-use Rattle.protocol.proofs.Holding.{holder-slot, slot-holder}
+use Rattle.protocol.proofs.Holding.{holder-slot, slot-holder, sharing-found, sharing-none}
 
 pub sized-passes : (s : Setup) (t : Tables) → Sized s t → sized s t ≡ true
 unfolding sized
@@ -49,7 +49,7 @@ module _ (s : Setup) (ok : Fits s) (t : Tables) (sd : Sound s t) (i l k : ℕ) (
   in-line : k % s .lines ≡ l
   in-line = rw is-k (row-mod i (s .lines) l hl)
 
-  line : LineAt s t k
+  line : SlotSoundAt s t k
   line = sd .line k hk
 
   -- slot k is the block's slot at i
@@ -63,23 +63,19 @@ module _ (s : Setup) (ok : Fits s) (t : Tables) (sd : Sound s t) (i l k : ℕ) (
       and-true (and-true (eq-eqb _ _ (line .no-block e)) (eq-eqb _ _ (line .no-mark e)))
       (true-all (s .words) _ (λ o u. eq-eqb _ _ (line .no-words e o u)))
 
-  no-other : mark t k ≡ 1 → 0 < counter t k
-      → leb (s .processors) (other (s .processors) i (λ j. holds s t j (block t k))) ≡ true
-  no-other e h = go (under? (other (s .processors) i H) (s .processors))
+  no-other : mark t k ≡ 1 → 0 < counter t k → not (sharing s t i (block t k)) ≡ true
+  no-other e h = go (known (sharing s t i b))
     where
       b : Block
       b = block t k
 
-      H : ℕ → Bool
-      H = λ j. holds s t j (block t k)
-
-      go : Under (other (s .processors) i H) (s .processors) → leb (s .processors) (other (s .processors) i H) ≡ true
-      go (under u q) =
-          let a = other-found (s .processors) i H u in
-          let j = other (s .processors) i H in
-          let g = holder-slot s t j b (a .passes) in
-          absurd (sd .lone k (slot s j b) hk (slot-lt s ok j b u) e (λ y. a .differs (slot-inj s ok j i b b (y ∙ sym (here h)))) (g .0) (g .1))
-      go (over u q) = le-leb _ _ u
+      go : Known (sharing s t i b) → not (sharing s t i b) ≡ true
+      go (sure q) =
+          let f = sharing-found s t i b q in
+          let j = f .0 in
+          let g = holder-slot s t j b (f .2 .passes) in
+          absurd (sd .lone k (slot s j b) hk (slot-lt s ok j b (f .1)) e (λ y. f .2 .differs (slot-inj s ok j i b b (y ∙ sym (here h)))) (g .0) (g .1))
+      go (not-so q) = rw q
 
   copy-passes : 0 < counter t k → copyLine s t i k ≡ true
   unfolding copyLine
@@ -119,7 +115,7 @@ module _ (s : Setup) (ok : Fits s) (t : Tables) (e : sound s t ≡ true) (k : �
   equal = all (s .words) (λ o. eqb (word s t k o) (memoryWord s t (block t k) o))
 
   abbrev alone : Bool
-  alone = leb (s .processors) (other (s .processors) i (λ j. holds s t j (block t k)))
+  alone = not (sharing s t i (block t k))
 
   line-passed : soundLine s t i l k ≡ true
   unfolding sound
@@ -164,7 +160,7 @@ module _ (s : Setup) (ok : Fits s) (t : Tables) (e : sound s t ≡ true) (k : �
       go (same p q) = absurd (d (no-mark′ p))
       go (apart p q) = omega arith
 
-  passed-line : LineAt s t k
+  passed-line : SlotSoundAt s t k
   passed-line = record {
     bounded = bounded″ (same? (counter t k) 0);
     no-block = λ z. eqb-true _ _ (empties z .0);
@@ -189,7 +185,7 @@ module _ (s : Setup) (ok : Fits s) (t : Tables) (e : sound s t ≡ true) (k : �
   passed-lone m u z d l pr p =
       true≢false
       (sym (g .1)
-      ∙ other-none (s .processors) (k / s .lines) (λ j. holds s t j b) none (m / s .lines) (processor-lt s ok m u)
+      ∙ sharing-none s t (k / s .lines) b none (m / s .lines) (processor-lt s ok m u)
       (λ y. d (sym (g .0) ∙ ap (λ x. slot s x b) y ∙ slot-of s ok k b (passed-proper pos))))
     where
       b : Block
@@ -198,8 +194,8 @@ module _ (s : Setup) (ok : Fits s) (t : Tables) (e : sound s t ≡ true) (k : �
       pos : 0 < counter t k
       pos = marked-pos (λ (y : mark t k ≡ 0). omega arith)
 
-      none : s .processors ≤ other (s .processors) (k / s .lines) (λ j. holds s t j b)
-      none = leb-true _ _ (marks pos (λ (y : mark t k ≡ 0). omega arith) .2)
+      none : sharing s t (k / s .lines) b ≡ false
+      none = not-true _ (marks pos (λ (y : mark t k ≡ 0). omega arith) .2)
 
       -- slot m is b's at its processor
       g : (slot s (m / s .lines) b ≡ m) × (holds s t (m / s .lines) b ≡ true)

@@ -1,15 +1,17 @@
--- What the tests of holding a block say, and what is known of the payer and of the owner.
+-- What the tests of holding a block say, and what is known of another holder, of the payer and of the owner.
 use Prim.Native.Nat.{ℕ, _/_, _%_, _≤_, _<_}
 use mathlib.Core.Path.{_≡_, sym, _∙_}
 use mathlib.Core.Logic.{_≢_}
 use mathlib.Core.Bool.{true, false, _&&_, true≢false}
-use borrow.Author.Tests.{ltb-true, eqb-true, lt-ltb, eq-eqb}
+use lib.Dec.{ltb, eqb}
+use borrow.Author.Tests.{ltb-true, ltb-false, eqb-true, lt-ltb, le-ltb, eq-eqb}
+use Rattle.protocol.specs.Lists.{other}
 use Rattle.protocol.specs.Board.{Fits, slot, lineOf}
-use Rattle.protocol.specs.Tables.{Tables, counter, block, mark, holdsAt, holds, marked}
+use Rattle.protocol.specs.Tables.{Tables, counter, block, mark, holdsAt, holds, sharing, marked}
 use Rattle.protocol.specs.Rules.{owner, payer}
 use Rattle.protocol.specs.declared.Setup.{Setup}
 use Rattle.protocol.specs.declared.Block.{Block}
-use Rattle.protocol.proofs.Laws.{both-true, and-true, first-holds, first-none, other-found, other-none, Another}
+use Rattle.protocol.proofs.Laws.{Known, sure, not-so, known, both-true, and-true, first-holds, first-none, other-found, other-none, other-some, Another}
 use Rattle.protocol.proofs.Board.{block-path, block-number, slot-of}
 
 -- ---- a slot
@@ -37,16 +39,45 @@ pub slot-holder : (s : Setup) (ok : Fits s) (t : Tables) (k : ℕ) (b : Block) �
 unfolding holds
 slot-holder s ok t k b pr l e = let g = slot-of s ok k b pr in (g, rw g (true-holdsAt t k b l e))
 
+-- ---- another holder
+
+pub sharing-some : (s : Setup) (t : Tables) (i : ℕ) (b : Block) (j : ℕ) → j < s .processors → j ≢ i → holds s t j b ≡ true → sharing s t i b ≡ true
+unfolding sharing
+sharing-some s t i b j l d e = other-some (s .processors) i (λ j. holds s t j b) j l d e
+
+pub sharing-found : (s : Setup) (t : Tables) (i : ℕ) (b : Block) → sharing s t i b ≡ true
+    → (j : ℕ) × (j < s .processors) × Another i (λ j. holds s t j b) j
+unfolding sharing
+sharing-found s t i b e =
+    let l = ltb-true _ _ e in
+    (other (s .processors) i (λ j. holds s t j b), l, other-found (s .processors) i (λ j. holds s t j b) l)
+
+pub sharing-none : (s : Setup) (t : Tables) (i : ℕ) (b : Block) → sharing s t i b ≡ false
+    → (j : ℕ) → j < s .processors → j ≢ i → holds s t j b ≡ false
+unfolding sharing
+sharing-none s t i b e = other-none (s .processors) i (λ j. holds s t j b) (ltb-false _ _ e)
+
 -- ---- the payer: another holder, or there is none
 
-pub payer-found : (s : Setup) (t : Tables) (i : ℕ) (b : Block) → payer s t i b < s .processors → Another i (λ j. holds s t j b) (payer s t i b)
-unfolding payer
-payer-found s t i b h = other-found (s .processors) i (λ j. holds s t j b) h
+pub payer-below : (s : Setup) (t : Tables) (i : ℕ) (b : Block) → sharing s t i b ≡ true → payer s t i b < s .processors
+unfolding payer sharing
+payer-below s t i b e = ltb-true _ _ e
 
-pub payer-none : (s : Setup) (t : Tables) (i : ℕ) (b : Block) → s .processors ≤ payer s t i b
-    → (j : ℕ) → j < s .processors → j ≢ i → holds s t j b ≡ false
-unfolding payer
-payer-none s t i b h = other-none (s .processors) i (λ j. holds s t j b) h
+pub payer-found : (s : Setup) (t : Tables) (i : ℕ) (b : Block) → sharing s t i b ≡ true → Another i (λ j. holds s t j b) (payer s t i b)
+unfolding payer sharing
+payer-found s t i b e = other-found (s .processors) i (λ j. holds s t j b) (ltb-true _ _ e)
+
+pub payer-none : (s : Setup) (t : Tables) (i : ℕ) (b : Block) → sharing s t i b ≡ false → s .processors ≤ payer s t i b
+unfolding payer sharing
+payer-none s t i b e = ltb-false _ _ e
+
+-- there is one exactly if another cache holds the block
+pub payer-sharing : (s : Setup) (t : Tables) (i : ℕ) (b : Block) → ltb (payer s t i b) (s .processors) ≡ sharing s t i b
+payer-sharing s t i b = go (known (sharing s t i b))
+  where
+    go : Known (sharing s t i b) → ltb (payer s t i b) (s .processors) ≡ sharing s t i b
+    go (sure e) = lt-ltb _ _ (payer-below s t i b e) ∙ sym e
+    go (not-so e) = le-ltb _ _ (payer-none s t i b e) ∙ sym e
 
 -- ---- the owner: a holder that is marked, or there is none
 

@@ -6,13 +6,15 @@ use lib.ListN.{length, set, length-set, length-replicate}
 use lib.Seq.{length-sets}
 use lib.Dec.{ltb, eqb}
 use Rattle.protocol.specs.Lists.{at}
-use Rattle.protocol.specs.Board.{variables, slots, slot, wordIndex, offsetOf}
-use Rattle.protocol.specs.Tables.{Tables, tables, Sized, fresh, counter, holds, marked}
+use Rattle.protocol.specs.Board.{variables, slots, slot, wordIndex, blockOf, offsetOf}
+use Rattle.protocol.specs.Tables.{Tables, tables, Sized, fresh, counter, holds, sharing, marked}
 use Rattle.protocol.specs.Rules.{writtenBack, emptied, filled, saved, evicted, owner, released, fetched, obtained, payer, writtenAlone, updatedCopies, broadcast, charged, written}
-use Rattle.protocol.specs.Requests.{served, readied, target, isWrite, variableOf, newValue}
+use Rattle.protocol.specs.Requests.{servedBy, served}
 use Rattle.protocol.specs.declared.Setup.{Setup}
 use Rattle.protocol.specs.declared.Block.{Block}
 use Rattle.protocol.specs.declared.Request.{Request}
+use Rattle.protocol.specs.declared.Operation.{Operation}
+use Rattle.protocol.specs.declared.Operation.the-variants.{Read, Write}
 use Rattle.protocol.proofs.Laws.{choice, at-set-same}
 
 pub sized-fresh : (s : Setup) → Sized s (fresh s)
@@ -135,7 +137,7 @@ module _ (s : Setup) (t : Tables) (z : Sized s t) where
   pub sized-written : (i : ℕ) (b : Block) (o x : ℕ) → Sized s (written s t i b o x)
   unfolding written
   sized-written i b o x =
-      choice (Sized s) (ltb (payer s t i b) (s .processors))
+      choice (Sized s) (sharing s t i b)
       (λ e. search (sized-charged s, sized-broadcast s))
       (λ e. sized-writtenAlone s t z (slot s i b) o x)
 
@@ -145,9 +147,11 @@ sized-obtained s t z i b =
     choice (Sized s) (holds s t i b) (λ e. z)
     (λ e. sized-fetched s (evicted s t (slot s i b)) (sized-evicted s t z (slot s i b)) (slot s i b) b)
 
+pub sized-servedBy : (s : Setup) (t : Tables) → Sized s t → (i : ℕ) (o : Operation) → Sized s (servedBy s t i o)
+sized-servedBy s t z i (Read v) = sized-obtained s t z i (blockOf s v)
+sized-servedBy s t z i (Write v x) =
+    sized-written s (obtained s t i (blockOf s v)) (sized-obtained s t z i (blockOf s v)) i (blockOf s v) (offsetOf s v) x
+
 pub sized-served : (s : Setup) (t : Tables) → Sized s t → (q : Request) → Sized s (served s t q)
 unfolding served
-sized-served s t z q =
-    let z′ = sized-obtained s t z (q .processor) (target s q) in
-    choice (Sized s) (isWrite q)
-    (λ e. sized-written s (readied s t q) z′ (q .processor) (target s q) (offsetOf s (variableOf q)) (newValue q)) (λ e. z′)
+sized-served s t z q = sized-servedBy s t z (q .processor) (q .operation)

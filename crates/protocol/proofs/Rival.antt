@@ -1,22 +1,25 @@
 -- Laws of a rival's entries: what their conditions tell, and the lengths of the rival's tables.
 use Prim.Native.Nat.{ℕ, zero, suc, _<_}
 use mathlib.Core.Path.{_≡_, refl, _∙_}
-use mathlib.Core.Bool.{Bool, true, false, not, _&&_, cond}
+use mathlib.Core.Bool.{Bool, true, false, not, cond}
 use mathlib.Core.List.{List, [], _∷_}
 use native.Mathlib.Omega.{arith}
 use lib.ListN.{length, set, length-set, length-replicate}
 use lib.Dec.{ltb}
-use borrow.Author.Tests.{ltb-true}
-use Rattle.protocol.specs.Refusals.{noRefusal, noSuchProcessor, noSuchVariable, noSuchBlock, readByBroadcast, completionNotHeld}
-use Rattle.protocol.specs.Board.{variables, slots, slot}
-use Rattle.protocol.specs.Requests.{isWrite, variableOf, target, Valid}
-use Rattle.protocol.specs.Rival.{Rival, RivalSized, noCopies, keeps, unmarked, rivalFetched, rivalWrittenBack, rivalDropped, rivalCompleted, played, moveRefusal, completionRefusal}
+use borrow.Author.Tests.{ltb-true, lt-ltb}
+use Rattle.protocol.specs.Refusals.{noRefusal, noSuchProcessor, noSuchBlock, readByBroadcast, completionNotHeld}
+use Rattle.protocol.specs.Board.{slots, slot, blockOf}
+use Rattle.protocol.specs.Requests.{Valid}
+use Rattle.protocol.specs.Rival.{Rival, RivalSized, noCopies, keeps, shared, unmarked, rivalFetched, rivalWrittenBack, rivalDropped, completedMarks, rivalCompleted, played, moveRefusal, readyRefusal, completionRefusal}
 use Rattle.protocol.specs.declared.Setup.{Setup}
 use Rattle.protocol.specs.declared.Block.{Block}
 use Rattle.protocol.specs.declared.Request.{Request}
+use Rattle.protocol.specs.declared.Operation.{Operation}
+use Rattle.protocol.specs.declared.Operation.the-variants.{Read, Write}
 use Rattle.protocol.specs.declared.Entry.{Entry}
 use Rattle.protocol.specs.declared.Entry.the-variants.{Fetch, WriteBack, Drop, Complete, CompleteByBroadcast}
-use Rattle.protocol.proofs.Laws.{choice, chosen-zero, chosen-other}
+use Rattle.protocol.proofs.Laws.{choice, chosen-zero}
+use Rattle.protocol.proofs.Requests.{named-passes, valid-passed}
 
 -- ---- entries that are not refused
 
@@ -33,22 +36,38 @@ move-legal s i b n e =
     let e₂ = chosen-zero (ltb (b .0) (s .blocks)) n noSuchBlock (omega arith) (e₁ .1) in
     record { processor = ltb-true _ _ (e₁ .0); block = ltb-true _ _ (e₂ .0); rest = e₂ .1 }
 
+-- what completing processor i's operation needs of the copies
+abbrev pub Ready : Setup → Rival → ℕ → Operation → Type 0
+Ready s r i (Read v) = keeps s r i (blockOf s v) ≡ true
+Ready s r i (Write v x) = keeps s r i (blockOf s v) ≡ true
+
+ready-passed : (s : Setup) (r : Rival) (i : ℕ) (o : Operation) (a : Bool) → readyRefusal s r i o a ≡ 0 → Ready s r i o
+ready-passed s r i (Read v) a e =
+    let kept : ℕ = cond (keeps s r i (blockOf s v)) noRefusal completionNotHeld in
+    chosen-zero (keeps s r i (blockOf s v)) noRefusal completionNotHeld (omega arith) (chosen-zero (not a) kept readByBroadcast (omega arith) e .1) .0
+ready-passed s r i (Write v x) a e = chosen-zero (keeps s r i (blockOf s v)) noRefusal completionNotHeld (omega arith) e .0
+
+-- and that this is enough, plainly
+pub ready-passes : (s : Setup) (r : Rival) (i : ℕ) (o : Operation) → Ready s r i o → readyRefusal s r i o false ≡ 0
+ready-passes s r i (Read v) e = rw e
+ready-passes s r i (Write v x) e = rw e
+
 -- a completion
 pub record Completion (s : Setup) (r : Rival) (q : Request) : Type 0 where
   pub valid : Valid s q
-  pub keeps : keeps s r (q .processor) (target s q) ≡ true
+  pub ready : Ready s r (q .processor) (q .operation)
 
 pub completion-legal : (s : Setup) (r : Rival) (q : Request) (a : Bool) → completionRefusal s r q a ≡ 0 → Completion s r q
 unfolding completionRefusal
 completion-legal s r q a e =
-    let kept : ℕ = cond (keeps s r (q .processor) (target s q)) noRefusal completionNotHeld in
-    let done : ℕ = cond (a && not (isWrite q)) readByBroadcast kept in
-    let known : ℕ = cond (ltb (variableOf q .0) (variables s)) done noSuchVariable in
-    let e₁ = chosen-zero (ltb (q .processor) (s .processors)) known noSuchProcessor (omega arith) e in
-    let e₂ = chosen-zero (ltb (variableOf q .0) (variables s)) done noSuchVariable (omega arith) (e₁ .1) in
-    let e₃ = chosen-other (a && not (isWrite q)) readByBroadcast kept (omega arith) (e₂ .1) in
-    let e₄ = chosen-zero (keeps s r (q .processor) (target s q)) noRefusal completionNotHeld (omega arith) (e₃ .1) in
-    record { valid = record { processor = ltb-true _ _ (e₁ .0); variable = ltb-true _ _ (e₂ .0) }; keeps = e₄ .0 }
+    let v = valid-passed s q (readyRefusal s r (q .processor) (q .operation) a) e in
+    record { valid = v .0; ready = ready-passed s r (q .processor) (q .operation) a (v .1) }
+
+pub legal-completion : (s : Setup) (r : Rival) (q : Request) → Valid s q → Ready s r (q .processor) (q .operation) → completionRefusal s r q false ≡ 0
+unfolding completionRefusal
+legal-completion s r q v e =
+    rw (lt-ltb _ _ (v .processor))
+    (named-passes s (q .operation) (readyRefusal s r (q .processor) (q .operation) false) (v .operation) ∙ ready-passes s r (q .processor) (q .operation) e)
 
 -- ---- each entry keeps the lengths of the tables
 
@@ -57,11 +76,6 @@ length-unmarked s r b zero = refl
 length-unmarked s r b (suc n) =
     choice (λ z. length z ≡ length (r .marks)) (keeps s r n b) (λ e. length-set (unmarked s r b n) (slot s n b) 0 ∙ length-unmarked s r b n)
     (λ e. length-unmarked s r b n)
-
--- a store that is made or not
-length-chosen : (c : Bool) (l : List ℕ) (k x : ℕ) → length (cond c (set l k x) l) ≡ length l
-length-chosen true l k x = length-set l k x
-length-chosen false l k x = refl
 
 pub sized-noCopies : (s : Setup) → RivalSized s (noCopies s)
 unfolding noCopies
@@ -92,12 +106,17 @@ module _ (s : Setup) (r : Rival) (z : RivalSized s r) where
     marks = simp length-set (z .marks);
   }
 
+  length-completedMarks : (i : ℕ) (o : Operation) → length (completedMarks s r i o) ≡ length (r .marks)
+  length-completedMarks i (Read v) = refl
+  length-completedMarks i (Write v x) =
+      choice (λ z. length z ≡ length (r .marks)) (shared s r i (blockOf s v)) (λ e. refl) (λ e. length-set (r .marks) (slot s i (blockOf s v)) 1)
+
   sized-completed : (q : Request) → RivalSized s (rivalCompleted s r q)
   unfolding rivalCompleted
   sized-completed q = record {
     blocks = z .blocks;
     held = z .held;
-    marks = simp length-chosen (z .marks);
+    marks = length-completedMarks (q .processor) (q .operation) ∙ z .marks;
   }
 
   pub sized-played : (qs : List Request) (e : Entry) → RivalSized s (played s r qs e)

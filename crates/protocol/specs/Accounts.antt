@@ -1,8 +1,8 @@
 -- Bills and accounts (document 01, "The board" and condition 21).
-use Prim.Native.Nat.{ℕ, _+_, _*_}
+use Prim.Native.Nat.{ℕ, _+_, _*_, _≤_}
 use mathlib.Core.Bool.{Bool, _&&_}
 use lib.Dec.{leb}
-use Rattle.protocol.specs.Board.{fetchPrice, writeBackPrice}
+use Rattle.protocol.specs.Board.{fetchPrice, mostWriteBack}
 use Rattle.protocol.specs.declared.Setup.{Setup}
 use Rattle.protocol.specs.declared.Bill.{Bill}
 use Rattle.protocol.specs.declared.Account.{Account}
@@ -38,8 +38,20 @@ entered a n c = record {
 abbrev pub cyclesOf : Account → ℕ
 cyclesOf a = a .fetch + a .«write_back» + a .update
 
+-- ---- condition 21
+
+-- the cycles of c are no more than n requests can cost
+pub record Spent (s : Setup) (n : ℕ) (c : Bill) : Type 0 where
+  pub fetch : c .fetch ≤ fetchPrice s * n
+  pub write-back : c .«write_back» ≤ mostWriteBack s * n
+  pub update : c .update ≤ n
+
+-- the cycles of an account, as a bill
+abbrev pub billOf : Account → Bill
+billOf a = record { fetch = a .fetch; «write_back» = a .«write_back»; update = a .update }
+
 -- 21: impossible if fetch or write-back cycles are over p × requests, or update cycles over requests
 unfoldable pub possible : Setup → Account → Bool
 possible s a =
-    leb (a .fetch) (fetchPrice s * a .requests) && leb (a .«write_back») (writeBackPrice s * a .requests)
+    leb (a .fetch) (fetchPrice s * a .requests) && leb (a .«write_back») (mostWriteBack s * a .requests)
     && leb (a .update) (a .requests)

@@ -1,7 +1,9 @@
 -- The board: setups, variables and blocks, and where a block stands (document 01, "The board").
-use Prim.Native.Nat.{ℕ, _+_, _*_, _/_, _%_, _≤_}
+use Prim.Native.Nat.{ℕ, _+_, _*_, _/_, _%_, _≤_, _<_}
+use mathlib.Core.Path.{_≡_}
 use mathlib.Core.Bool.{Bool, _&&_}
 use lib.Dec.{leb}
+use Rattle.protocol.specs.Refusals.{noRefusal, unless, setupOutOfRange}
 use Rattle.protocol.specs.declared.Setup.{Setup}
 use Rattle.protocol.specs.declared.Variable.{Variable}
 use Rattle.protocol.specs.declared.Block.{Block}
@@ -16,6 +18,10 @@ within n x = leb 1 x && leb x n
 unfoldable pub inRange : Setup → Bool
 inRange s = within 8 (s .processors) && within 64 (s .lines) && within 16 (s .words) && within 256 (s .blocks)
 
+-- what refuses a setup
+unfoldable pub setupRefusal : Setup → ℕ
+setupRefusal s = unless (inRange s) setupOutOfRange noRefusal
+
 -- ---- "Cycles of a move of p words are p"
 
 -- the cycles of a fetch, which is also a full counter
@@ -26,7 +32,11 @@ fetchPrice s = s .words
 unfoldable pub writeBackPrice : Setup → ℕ
 writeBackPrice s = s .words
 
--- a setup that 1 lets through, as facts
+-- the most write-back cycles of one request
+unfoldable pub mostWriteBack : Setup → ℕ
+mostWriteBack s = writeBackPrice s
+
+-- a setup that is not refused, as facts
 pub record Fits (s : Setup) : Type 0 where
   pub some-processor : 1 ≤ s .processors
   pub few-processors : s .processors ≤ 8
@@ -39,6 +49,7 @@ pub record Fits (s : Setup) : Type 0 where
   pub some-fetch : 1 ≤ fetchPrice s
   pub few-fetch : fetchPrice s ≤ 16
   pub write-back-le-fetch : writeBackPrice s ≤ fetchPrice s
+  pub few-write-back : mostWriteBack s ≤ 16
 
 -- ---- variables and blocks
 
@@ -64,9 +75,18 @@ lineOf s b = b .0 % s .lines
 unfoldable pub slots : Setup → ℕ
 slots s = s .processors * s .lines
 
+-- the slot of line l of processor i
+abbrev pub lineSlot : Setup → ℕ → ℕ → ℕ
+lineSlot s i l = i * s .lines + l
+
 -- the only slot of processor i where block b may stand
 unfoldable pub slot : Setup → ℕ → Block → ℕ
-slot s i b = i * s .lines + lineOf s b
+slot s i b = lineSlot s i (lineOf s b)
+
+-- k is that slot, and it is one of the slots
+pub record Placed (s : Setup) (i : ℕ) (b : Block) (k : ℕ) : Type 0 where
+  pub value : k ≡ slot s i b
+  pub within : k < slots s
 
 -- the index of word o of row k, a row being p words: the rows of the table of words are the slots, those of main memory the blocks
 unfoldable pub wordIndex : Setup → ℕ → ℕ → ℕ

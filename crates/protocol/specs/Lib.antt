@@ -2,10 +2,12 @@ pub mod Lists
 pub mod Refusals
 pub mod Board
 pub mod Tables
+pub mod Lent
 pub mod Soundness
 pub mod Rules
 pub mod Requests
 pub mod Accounts
+pub mod Engines
 pub mod Runs
 pub mod Rival
 pub mod Pricer

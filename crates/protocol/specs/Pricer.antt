@@ -4,10 +4,10 @@ use mathlib.Core.Bool.{_&&_, cond}
 use mathlib.Core.List.{List, [], _∷_}
 use lib.ListN.{length}
 use lib.Dec.{leb, eqb}
-use Rattle.protocol.specs.Refusals.{noRefusal, setupOutOfRange, wrongLength, tooMany}
-use Rattle.protocol.specs.Board.{inRange, slots}
+use Rattle.protocol.specs.Refusals.{noRefusal, unless, firstOf, wrongLength, tooMany}
+use Rattle.protocol.specs.Board.{setupRefusal, slots}
 use Rattle.protocol.specs.Accounts.{nothing, plus, cycles}
-use Rattle.protocol.specs.Rival.{Rival, noCopies, played, left, cost, refusal, endRefusal}
+use Rattle.protocol.specs.Rival.{Rival, rivalSized, noCopies, played, left, cost, refusal, endRefusal}
 use Rattle.protocol.specs.declared.Setup.{Setup}
 use Rattle.protocol.specs.declared.Request.{Request}
 use Rattle.protocol.specs.declared.Bill.{Bill}
@@ -40,7 +40,7 @@ judged s r qs (e ∷ es) n c =
 unfoldable pub verdict : Setup → List Request → List Entry → Verdict
 verdict s qs es = judged s (noCopies s) qs es 0 nothing
 
--- ---- the pricer checks 1, 2, 5
+-- ---- the pricer checks 1, 2, 5, in this order
 
 -- "over 1,000,000 requests or 4,000,000 entries"
 abbrev pub priceRequestLimit : ℕ
@@ -52,9 +52,9 @@ priceEntryLimit = 4000000
 -- a schedule of n entries for m requests
 unfoldable pub priceRefusal : Setup → Rival → ℕ → ℕ → ℕ
 priceRefusal s lent n m =
-    cond (inRange s)
-    (cond (eqb (length (lent .blocks)) (slots s) && eqb (length (lent .held)) (slots s) && eqb (length (lent .marks)) (slots s))
-    (cond (leb m priceRequestLimit && leb n priceEntryLimit) noRefusal tooMany) wrongLength) setupOutOfRange
+    firstOf (setupRefusal s)
+    (unless (rivalSized s lent) wrongLength
+    (unless (leb m priceRequestLimit && leb n priceEntryLimit) tooMany noRefusal))
 
 -- ---- the answer: a cost, or a number and a place ("and no cost")
 

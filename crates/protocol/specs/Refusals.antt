@@ -1,9 +1,23 @@
 -- The refusal numbers (document 01, "Refused for what came in" and "Refused for how things stand").
 use Prim.Native.Nat.{ℕ}
+use mathlib.Core.Bool.{Bool, cond}
+use lib.Dec.{eqb}
 
 -- where no condition is met, nothing is refused
 abbrev pub noRefusal : ℕ
 noRefusal = 0
+
+-- ---- "The first condition met in these orders gives the number"
+
+-- refused by n unless the test passes; then the conditions after it
+abbrev pub unless : Bool → ℕ → ℕ → ℕ
+unless passes n after = cond passes after n
+
+-- the number of the conditions before, or, where they refuse nothing, that of those after
+abbrev pub firstOf : ℕ → ℕ → ℕ
+firstOf before after = cond (eqb before noRefusal) after before
+
+-- ---- the numbers
 
 -- 1: a setup number out of range
 abbrev pub setupOutOfRange : ℕ

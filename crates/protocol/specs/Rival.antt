@@ -6,13 +6,15 @@ use mathlib.Core.List.{List, [], _∷_}
 use lib.ListN.{length, set}
 use lib.Dec.{ltb, eqb}
 use Rattle.protocol.specs.Lists.{at, zeros, tail, other}
-use Rattle.protocol.specs.Refusals.{noRefusal, noSuchProcessor, noSuchVariable, noSuchBlock, readByBroadcast, lineInUse, blockNotHeld, dropOfMarked, noRequestLeft, completionNotHeld, requestsLeft}
-use Rattle.protocol.specs.Board.{variables, slots, slot, fetchPrice, writeBackPrice}
-use Rattle.protocol.specs.Requests.{isWrite, variableOf, target}
+use Rattle.protocol.specs.Refusals.{noRefusal, unless, noSuchProcessor, noSuchBlock, readByBroadcast, lineInUse, blockNotHeld, dropOfMarked, noRequestLeft, completionNotHeld, requestsLeft}
+use Rattle.protocol.specs.Board.{slots, slot, blockOf, fetchPrice, writeBackPrice}
+use Rattle.protocol.specs.Requests.{namedRefusal}
 use Rattle.protocol.specs.Accounts.{nothing, plus}
 use Rattle.protocol.specs.declared.Setup.{Setup}
 use Rattle.protocol.specs.declared.Block.{Block}
 use Rattle.protocol.specs.declared.Request.{Request}
+use Rattle.protocol.specs.declared.Operation.{Operation}
+use Rattle.protocol.specs.declared.Operation.the-variants.{Read, Write}
 use Rattle.protocol.specs.declared.Bill.{Bill}
 use Rattle.protocol.specs.declared.Entry.{Entry}
 use Rattle.protocol.specs.declared.Entry.the-variants.{Fetch, WriteBack, Drop, Complete, CompleteByBroadcast}
@@ -29,7 +31,11 @@ pub record Rival : Type 0 where
 abbrev pub rival : List ℕ → List ℕ → List ℕ → Rival
 rival b h m = record { blocks = b; held = h; marks = m }
 
--- 2, as facts: an entry for each slot
+-- 2: an entry for each slot
+unfoldable pub rivalSized : Setup → Rival → Bool
+rivalSized s r = eqb (length (r .blocks)) (slots s) && eqb (length (r .held)) (slots s) && eqb (length (r .marks)) (slots s)
+
+-- the same, as facts
 pub record RivalSized (s : Setup) (r : Rival) : Type 0 where
   pub blocks : length (r .blocks) ≡ slots s
   pub held : length (r .held) ≡ slots s
@@ -71,11 +77,13 @@ rivalWrittenBack s r i b = rival (r .blocks) (r .held) (set (r .marks) (slot s i
 unfoldable pub rivalDropped : Setup → Rival → ℕ → Block → Rival
 rivalDropped s r i b = rival (set (r .blocks) (slot s i b) 0) (set (r .held) (slot s i b) 0) (set (r .marks) (slot s i b) 0)
 
--- a completed write marks the block where it has one holder
+-- the marks when processor i's operation is completed: a write marks the block where it has one holder
+abbrev pub completedMarks : Setup → Rival → ℕ → Operation → List ℕ
+completedMarks s r i (Read v) = r .marks
+completedMarks s r i (Write v x) = cond (shared s r i (blockOf s v)) (r .marks) (set (r .marks) (slot s i (blockOf s v)) 1)
+
 unfoldable pub rivalCompleted : Setup → Rival → Request → Rival
-rivalCompleted s r q =
-    rival (r .blocks) (r .held)
-    (cond (isWrite q && not (shared s r (q .processor) (target s q))) (set (r .marks) (slot s (q .processor) (target s q)) 1) (r .marks))
+rivalCompleted s r q = rival (r .blocks) (r .held) (completedMarks s r (q .processor) (q .operation))
 
 -- completing ends the next request
 abbrev pub completedNext : Setup → Rival → List Request → Rival
@@ -101,8 +109,12 @@ left qs CompleteByBroadcast = tail qs
 -- ---- what an entry costs
 
 -- a read 0; a write 0 where the block has one holder, else 1; by broadcast 1
+abbrev pub completionBy : Setup → Rival → ℕ → Operation → Bool → ℕ
+completionBy s r i (Read v) byBroadcast = 0
+completionBy s r i (Write v x) byBroadcast = cond byBroadcast 1 (cond (shared s r i (blockOf s v)) 1 0)
+
 unfoldable pub completionCycles : Setup → Rival → Request → Bool → ℕ
-completionCycles s r q byBroadcast = cond (isWrite q && (cond byBroadcast true (shared s r (q .processor) (target s q)))) 1 0
+completionCycles s r q byBroadcast = completionBy s r (q .processor) (q .operation) byBroadcast
 
 abbrev pub completionNext : Setup → Rival → List Request → Bool → ℕ
 completionNext s r [] byBroadcast = 0
@@ -120,16 +132,23 @@ cost s r qs CompleteByBroadcast = record { fetch = 0; «write_back» = 0; update
 
 -- at each fetch, drop or write-back 3, 8, then n
 unfoldable pub moveRefusal : Setup → ℕ → Block → ℕ → ℕ
-moveRefusal s i b n = cond (ltb i (s .processors)) (cond (ltb (b .0) (s .blocks)) n noSuchBlock) noSuchProcessor
+moveRefusal s i b n =
+    unless (ltb i (s .processors)) noSuchProcessor
+    (unless (ltb (b .0) (s .blocks)) noSuchBlock n)
 
--- at each completion of a request 3, 4, 9, 27
+-- 9, 27
+abbrev pub readyRefusal : Setup → Rival → ℕ → Operation → Bool → ℕ
+readyRefusal s r i (Read v) byBroadcast =
+    unless (not byBroadcast) readByBroadcast
+    (unless (keeps s r i (blockOf s v)) completionNotHeld noRefusal)
+readyRefusal s r i (Write v x) byBroadcast = unless (keeps s r i (blockOf s v)) completionNotHeld noRefusal
+
+-- at each completion of a request 3, 4, then these
 unfoldable pub completionRefusal : Setup → Rival → Request → Bool → ℕ
 completionRefusal s r q byBroadcast =
-    cond (ltb (q .processor) (s .processors))
-    (cond (ltb (variableOf q .0) (variables s))
-    (cond (byBroadcast && not (isWrite q)) readByBroadcast (cond (keeps s r (q .processor) (target s q)) noRefusal completionNotHeld))
-    noSuchVariable)
-    noSuchProcessor
+    unless (ltb (q .processor) (s .processors)) noSuchProcessor
+    (namedRefusal s (q .operation)
+    (readyRefusal s r (q .processor) (q .operation) byBroadcast))
 
 -- 26 first
 abbrev pub refusalNext : Setup → Rival → List Request → Bool → ℕ
@@ -138,9 +157,12 @@ refusalNext s r (q ∷ qs) byBroadcast = completionRefusal s r q byBroadcast
 
 -- then 23 at a fetch, 24 at a write-back, 24 and 25 at a drop
 abbrev pub refusal : Setup → Rival → List Request → Entry → ℕ
-refusal s r qs (Fetch i b) = moveRefusal s i b (cond (eqb (at (r .held) (slot s i b)) 0) noRefusal lineInUse)
-refusal s r qs (WriteBack i b) = moveRefusal s i b (cond (keeps s r i b) noRefusal blockNotHeld)
-refusal s r qs (Drop i b) = moveRefusal s i b (cond (keeps s r i b) (cond (eqb (at (r .marks) (slot s i b)) 0) noRefusal dropOfMarked) blockNotHeld)
+refusal s r qs (Fetch i b) = moveRefusal s i b (unless (eqb (at (r .held) (slot s i b)) 0) lineInUse noRefusal)
+refusal s r qs (WriteBack i b) = moveRefusal s i b (unless (keeps s r i b) blockNotHeld noRefusal)
+refusal s r qs (Drop i b) =
+    moveRefusal s i b
+    (unless (keeps s r i b) blockNotHeld
+    (unless (eqb (at (r .marks) (slot s i b)) 0) dropOfMarked noRefusal))
 refusal s r qs Complete = refusalNext s r qs false
 refusal s r qs CompleteByBroadcast = refusalNext s r qs true
 

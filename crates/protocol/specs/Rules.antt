@@ -7,7 +7,7 @@ use lib.Seq.{sets}
 use lib.Dec.{ltb, eqb}
 use Rattle.protocol.specs.Lists.{zeros, first, other}
 use Rattle.protocol.specs.Board.{fetchPrice, writeBackPrice, slot, wordIndex, memoryIndex}
-use Rattle.protocol.specs.Tables.{Tables, tables, counter, block, lineWords, memoryWords, holds, marked}
+use Rattle.protocol.specs.Tables.{Tables, tables, counter, block, lineWords, memoryWords, holds, sharing, marked}
 use Rattle.protocol.specs.declared.Setup.{Setup}
 use Rattle.protocol.specs.declared.Block.{Block}
 
@@ -98,10 +98,10 @@ charged s t k =
 
 unfoldable pub written : Setup → Tables → ℕ → Block → ℕ → ℕ → Tables
 written s t i b o x =
-    cond (ltb (payer s t i b) (s .processors))
+    cond (sharing s t i b)
     (charged s (broadcast s t (slot s i b) b o x) (slot s (payer s t i b) b))
     (writtenAlone s t (slot s i b) o x)
 
 -- 1 cycle if another cache holds b, else 0
 unfoldable pub updateCycles : Setup → Tables → ℕ → Block → ℕ
-updateCycles s t i b = cond (ltb (payer s t i b) (s .processors)) 1 0
+updateCycles s t i b = cond (sharing s t i b) 1 0

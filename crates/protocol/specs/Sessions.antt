@@ -9,7 +9,8 @@ use lib.Dec.{eqb}
 use Rattle.protocol.specs.Board.{slots}
 use Rattle.protocol.specs.Tables.{Tables, tables, fresh}
 use Rattle.protocol.specs.Accounts.{freshAccount, entered}
-use Rattle.protocol.specs.Runs.{answered, startRefusal, started, looked, Outcome, run}
+use Rattle.protocol.specs.Engines.{answered, Outcome, run}
+use Rattle.protocol.specs.Runs.{startRefusal, started, looked, engine}
 use Rattle.protocol.specs.Rival.{Rival, rival}
 use Rattle.protocol.specs.Pricer.{price, priceTables, numberOf, placeOf, costOf}
 use Rattle.protocol.specs.declared.Setup.{Setup}
@@ -166,8 +167,8 @@ pub data Row : Type 0 where
 unfoldable pub sessionPasses : Session → Bool
 sessionPasses w =
     let s : Setup = w .setup in
-    let t : Tables = run s (fresh s) freshAccount (w .before) (replicate (length (w .before)) 9) .tables in
-    let o : Outcome = run s t (w .account) (w .requests) (replicate (length (w .requests)) 9) in
+    let t : Tables = run (engine s) (fresh s) freshAccount (w .before) (replicate (length (w .before)) 9) .tables in
+    let o : Outcome Tables = run (engine s) t (w .account) (w .requests) (replicate (length (w .requests)) 9) in
     sameAnswer (o .answer) (w .answer) && sameList (o .values) (w .values)
     && sameAccount (o .account) (entered (w .account) (w .answer .taken) (w .cost))
     && sameTables (o .tables) (holding s (w .lines) (w .memory))
@@ -176,14 +177,14 @@ sessionPasses w =
 -- an empty list: nothing changes, 0 taken
 unfoldable pub tabledPasses : Setup → Tables → ℕ → Bool
 tabledPasses s t n =
-    let o : Outcome = run s t freshAccount [] [] in
+    let o : Outcome Tables = run (engine s) t freshAccount [] [] in
     sameAnswer (o .answer) (answered 0 n 0) && sameTables (o .tables) t && sameAccount (o .account) freshAccount && sameList (o .values) []
 
 unfoldable pub lentPasses : Lent → Bool
 lentPasses w =
     let s : Setup = w .setup in
     let t : Tables = w .tables in
-    let o : Outcome = run s t (w .account) (read 1 1 ∷ []) (w .values) in
+    let o : Outcome Tables = run (engine s) t (w .account) (read 1 1 ∷ []) (w .values) in
     eqb (o .answer .refusal) (w .runRefusal)
     && cond (eqb (w .runRefusal) 0) true (sameTables (o .tables) t && sameAccount (o .account) (w .account) && sameList (o .values) (w .values) && sameAnswer (o .answer) (answered 0 (w .runRefusal) 0))
     && eqb (startRefusal s t) (w .startRefusal) && sameTables (started s t) (cond (eqb (w .startRefusal) 0) (fresh s) t)

@@ -2,18 +2,18 @@
 use Prim.Native.Nat.{ℕ, _+_, _*_, _%_, _≤_, _<_}
 use mathlib.Core.Path.{_≡_}
 use mathlib.Core.Logic.{_≢_}
-use mathlib.Core.Bool.{Bool, _&&_, cond}
+use mathlib.Core.Bool.{Bool, _&&_, not, cond}
 use lib.Dec.{leb, ltb, eqb}
-use Rattle.protocol.specs.Lists.{all, other}
+use Rattle.protocol.specs.Lists.{all}
 use Rattle.protocol.specs.Board.{fetchPrice, lineOf, slots}
-use Rattle.protocol.specs.Tables.{Tables, Sized, counter, block, mark, word, memoryWord, holds}
+use Rattle.protocol.specs.Tables.{Tables, Sized, counter, block, mark, word, memoryWord, sharing}
 use Rattle.protocol.specs.declared.Setup.{Setup}
 use Rattle.protocol.specs.declared.Block.{Block}
 
 -- ---- as facts
 
 -- slot k, with counter c, block b, mark m and words w, and the block's words g in main memory
-pub record Line (s : Setup) (k c : ℕ) (b : Block) (m : ℕ) (w g : ℕ → ℕ) : Type 0 where
+pub record SlotSound (s : Setup) (k c : ℕ) (b : Block) (m : ℕ) (w g : ℕ → ℕ) : Type 0 where
   -- every counter is at most p
   pub bounded : c ≤ fetchPrice s
   -- empty lines are all 0
@@ -30,8 +30,8 @@ pub record Line (s : Setup) (k c : ℕ) (b : Block) (m : ℕ) (w g : ℕ → ℕ
   -- an unmarked copy equals main memory
   pub clean : m ≡ 0 → 0 < c → (o : ℕ) → o < s .words → w o ≡ g o
 
-abbrev pub LineAt : Setup → Tables → ℕ → Type 0
-LineAt s t k = Line s k (counter t k) (block t k) (mark t k) (word s t k) (memoryWord s t (block t k))
+abbrev pub SlotSoundAt : Setup → Tables → ℕ → Type 0
+SlotSoundAt s t k = SlotSound s k (counter t k) (block t k) (mark t k) (word s t k) (memoryWord s t (block t k))
 
 -- a marked block has one holder
 abbrev pub Lone : Setup → Tables → Type 0
@@ -39,7 +39,7 @@ Lone s t = (k m : ℕ) → k < slots s → m < slots s → mark t k ≡ 1 → m 
 
 pub record Sound (s : Setup) (t : Tables) : Type 0 where
   pub lengths : Sized s t
-  pub line : (k : ℕ) → k < slots s → LineAt s t k
+  pub line : (k : ℕ) → k < slots s → SlotSoundAt s t k
   pub lone : Lone s t
 
 -- ---- as a test
@@ -53,7 +53,7 @@ unfoldable pub copyLine : Setup → Tables → ℕ → ℕ → Bool
 copyLine s t i k =
     cond (eqb (mark t k) 0)
     (all (s .words) (λ o. eqb (word s t k o) (memoryWord s t (block t k) o)))
-    (eqb (mark t k) 1 && eqb (counter t k) (fetchPrice s) && leb (s .processors) (other (s .processors) i (λ j. holds s t j (block t k))))
+    (eqb (mark t k) 1 && eqb (counter t k) (fetchPrice s) && not (sharing s t i (block t k)))
 
 -- line l of processor i, which is at slot k
 unfoldable pub soundLine : Setup → Tables → ℕ → ℕ → ℕ → Bool

@@ -5,7 +5,7 @@ use mathlib.Core.Bool.{Bool, _&&_}
 use mathlib.Core.List.{List, []}
 use lib.ListN.{length}
 use lib.Dec.{ltb, eqb}
-use Rattle.protocol.specs.Lists.{at, part, zeros}
+use Rattle.protocol.specs.Lists.{at, part, zeros, other}
 use Rattle.protocol.specs.Board.{slots, slot, wordIndex, memoryIndex, variables}
 use Rattle.protocol.specs.declared.Setup.{Setup}
 use Rattle.protocol.specs.declared.Block.{Block}
@@ -76,10 +76,14 @@ holdsAt t k b = ltb 0 (counter t k) && eqb (block t k .0) (b .0)
 unfoldable pub holds : Setup → Tables → ℕ → Block → Bool
 holds s t i b = holdsAt t (slot s i b) b
 
+-- a processor other than i holds it
+unfoldable pub sharing : Setup → Tables → ℕ → Block → Bool
+sharing s t i b = ltb (other (s .processors) i (λ j. holds s t j b)) (s .processors)
+
 -- slot k is marked
 unfoldable pub marked : Tables → ℕ → Bool
 marked t k = eqb (mark t k) 1
 
--- block numbers and counters alone, which say what is held
-abbrev pub copies : List ℕ → List ℕ → Tables
-copies b c = tables b c [] [] []
+-- the directory of the caches: block numbers and counters alone, which say what is held
+abbrev pub directory : List ℕ → List ℕ → Tables
+directory b c = tables b c [] [] []

@@ -1,8 +1,8 @@
 // The types of the board, the engine and the rival, and the refusal numbers. The rules are in specs/.
 ghost use mathlib.Core.Path.{_≡_};
-ghost use Prim.Native.Nat.{_*_};
-ghost use Rattle.protocol.specs.Board.{within, inRange, Fits, fetchPrice, writeBackPrice, variables, blockOf, offsetOf, lineOf, slots};
-ghost use Rattle.protocol.specs.Requests.{isWrite, variableOf, target, requestRefusal};
+ghost use Prim.Native.Nat.{_*_, _<_};
+ghost use Rattle.protocol.specs.Board.{within, inRange, setupRefusal, Fits, fetchPrice, writeBackPrice, mostWriteBack, variables, blockOf, offsetOf, lineOf, slots, Placed};
+ghost use Rattle.protocol.specs.Requests.{variableRefusal, namedRefusal, requestRefusal};
 
 // The refusal numbers.
 pub const NO_REFUSAL: u32 = 0;
@@ -43,6 +43,9 @@ pub const COMPLETION_NOT_HELD: u32 = 27;
 
 pub const REQUESTS_LEFT: u32 = 28;
 
+// The requests that an account takes, and the pricer.
+pub const REQUEST_LIMIT: u32 = 1000000;
+
 // The board: N processors, L lines in each cache, p words in a block, M blocks.
 pub struct Setup {
     pub processors: u32,
@@ -69,7 +72,7 @@ fn is_within(most: u32, x: u32) -> bool
 
 impl Setup {
     // Whether condition 1 lets the setup through.
-    pub fn in_range(self) -> bool
+    fn in_range(self) -> bool
         ensures { λ r. ⌜ r ≡ inRange self ⌝ }
     {
         if !is_within(8, self.processors) {
@@ -84,6 +87,16 @@ impl Setup {
         is_within(256, self.blocks)
     }
 
+    // The refusal number of the setup, or 0.
+    pub fn refusal(self) -> u32
+        ensures { λ r. ⌜ r ≡ setupRefusal self ⌝ }
+    {
+        if !self.in_range() {
+            return SETUP_OUT_OF_RANGE;
+        }
+        NO_REFUSAL
+    }
+
     // The cycles of a fetch, which is also a full counter.
     pub fn fetch_price(self) -> u32
         ensures { λ r. ⌜ r ≡ fetchPrice self ⌝ }
@@ -96,6 +109,13 @@ impl Setup {
         ensures { λ r. ⌜ r ≡ writeBackPrice self ⌝ }
     {
         self.words
+    }
+
+    // The most write-back cycles of one request.
+    pub fn most_write_back(self) -> u32
+        ensures { λ r. ⌜ r ≡ mostWriteBack self ⌝ }
+    {
+        self.write_back_price()
     }
 
     // The block in which a variable lies.
@@ -122,12 +142,14 @@ impl Setup {
         block.0 % self.lines
     }
 
-    // The block of a request's variable.
-    pub fn target(self, request: Request) -> Block
+    // The only slot of a processor where a block may stand.
+    pub fn slot(self, processor: u32, block: Block) -> usize
         requires { ⌜ Fits self ⌝ }
-        ensures { λ r. ⌜ r ≡ target self request ⌝ }
+        requires { ⌜ processor < self .processors ⌝ }
+        ensures { λ r. ⌜ Placed self processor block r ⌝ }
     {
-        self.block_of(request.variable())
+        let line = self.line_of(block);
+        (processor * self.lines + line) as usize
     }
 
     // The slots: one for each line of each cache.
@@ -154,24 +176,42 @@ impl Setup {
         self.blocks * self.words
     }
 
+    // 4 if the variable is not below M × p, else `next`.
+    fn variable_refusal(self, variable: Variable, next: u32) -> u32
+        requires { ⌜ Fits self ⌝ }
+        ensures { λ r. ⌜ r ≡ variableRefusal self variable next ⌝ }
+    {
+        let limit = self.variable_count();
+        if variable.0 < limit {
+            return next;
+        }
+        NO_SUCH_VARIABLE
+    }
+
+    // 4 if the operation's variable is not below M × p, else `next`.
+    pub fn named_refusal(self, operation: Operation, next: u32) -> u32
+        requires { ⌜ Fits self ⌝ }
+        ensures { λ r. ⌜ r ≡ namedRefusal self operation next ⌝ }
+    {
+        match operation {
+            Operation::Read(v) => self.variable_refusal(v, next),
+            Operation::Write(v, _) => self.variable_refusal(v, next),
+        }
+    }
+
     // The refusal number of a request where `taken` were taken before, or 0: 3, 4, 22 in this order.
     pub fn request_refusal(self, taken: u32, request: Request) -> u32
         requires { ⌜ Fits self ⌝ }
         ensures { λ r. ⌜ r ≡ requestRefusal self taken request ⌝ }
     {
-        let variable = request.variable();
-        let named = variable.0;
-        let limit = self.variable_count();
         if request.processor >= self.processors {
             return NO_SUCH_PROCESSOR;
         }
-        if named >= limit {
-            return NO_SUCH_VARIABLE;
+        let operation = request.operation;
+        if taken < REQUEST_LIMIT {
+            return self.named_refusal(operation, NO_REFUSAL);
         }
-        if taken >= 1000000 {
-            return ACCOUNT_FULL;
-        }
-        NO_REFUSAL
+        self.named_refusal(operation, ACCOUNT_FULL)
     }
 }
 
@@ -184,30 +224,6 @@ pub enum Operation {
 pub struct Request {
     pub processor: u32,
     pub operation: Operation,
-}
-
-impl Request {
-    // Whether it is a write.
-    pub fn is_write(self) -> bool
-        ensures { λ r. ⌜ r ≡ isWrite self ⌝ }
-    {
-        let operation = self.operation;
-        match operation {
-            Operation::Read(_) => false,
-            Operation::Write(_, _) => true,
-        }
-    }
-
-    // The variable that it names.
-    pub fn variable(self) -> Variable
-        ensures { λ r. ⌜ r ≡ variableOf self ⌝ }
-    {
-        let operation = self.operation;
-        match operation {
-            Operation::Read(v) => v,
-            Operation::Write(v, _) => v,
-        }
-    }
 }
 
 // The cycles that an action is charged, by kind.
