@@ -1,10 +1,12 @@
-// Parts of lent words: cleared, copied and compared.
+// Parts of lent words: cleared, copied and compared; and rows of words, which are a slot's words and a block's words in main memory.
+use protocol::Setup;
 ghost use mathlib.Core.Path.{_≡_};
-ghost use Prim.Native.Nat.{_+_, _≤_};
-ghost use lib.ListN.{length};
+ghost use Prim.Native.Nat.{_+_, _≤_, _<_};
+ghost use lib.ListN.{length, set};
 ghost use lib.Seq.{sets};
 ghost use lib.Dec.{eqb};
 ghost use Rattle.protocol.specs.Lists.{at, part, zeros, all};
+ghost use Rattle.protocol.specs.Board.{wordIndex};
 
 // Every word becomes 0.
 pub fn clear(part: &mut [u32])
@@ -30,7 +32,7 @@ fn copy(from: &[u32], to: &mut [u32])
 }
 
 // The n words from index a become 0.
-pub fn clear_part(words: &mut [u32], a: usize, n: usize)
+fn clear_part(words: &mut [u32], a: usize, n: usize)
     requires { ⌜ a + n ≤ length (now words) ⌝ }
     ensures { λ _. ⌜ now (words .exit) ≡ sets (now (words .entry)) a (zeros n) ⌝ }
 {
@@ -39,7 +41,7 @@ pub fn clear_part(words: &mut [u32], a: usize, n: usize)
 }
 
 // The n words of `to` from index b become those of `from` from index a.
-pub fn copy_part(from: &[u32], a: usize, to: &mut [u32], b: usize, n: usize)
+fn copy_part(from: &[u32], a: usize, to: &mut [u32], b: usize, n: usize)
     requires { ⌜ (a + n ≤ length (now from)) × (b + n ≤ length (now to)) ⌝ }
     ensures { λ _. ⌜ now (to .exit) ≡ sets (now (to .entry)) b (part (now (from .entry)) a n) ⌝ }
 {
@@ -76,4 +78,40 @@ pub fn same_part(x: &[u32], a: usize, y: &[u32], b: usize, n: usize) -> bool
         o += 1;
     }
     true
+}
+
+// Word `offset` of a row.
+pub fn word_of(setup: Setup, row: usize, offset: u32, words: &[u32]) -> u32
+    requires { ⌜ wordIndex setup row offset < length (now words) ⌝ }
+    ensures { λ r. ⌜ r ≡ at (now (words .entry)) (wordIndex setup row offset) ⌝ }
+{
+    let k = row * setup.words as usize + offset as usize;
+    words[k]
+}
+
+// Word `offset` of a row takes a value.
+pub fn set_word(setup: Setup, row: usize, offset: u32, value: u32, words: &mut [u32])
+    requires { ⌜ wordIndex setup row offset < length (now words) ⌝ }
+    ensures { λ _. ⌜ now (words .exit) ≡ set (now (words .entry)) (wordIndex setup row offset) value ⌝ }
+{
+    let k = row * setup.words as usize + offset as usize;
+    words[k] = value;
+}
+
+// The words of a row become 0.
+pub fn clear_row(setup: Setup, row: usize, words: &mut [u32])
+    requires { ⌜ wordIndex setup row 0 + setup .words ≤ length (now words) ⌝ }
+    ensures { λ _. ⌜ now (words .exit) ≡ sets (now (words .entry)) (wordIndex setup row 0) (zeros (setup .words)) ⌝ }
+{
+    let n = setup.words as usize;
+    clear_part(words, row * n, n);
+}
+
+// The words of row `into` of `to` become those of row `row` of `from`.
+pub fn copy_row(setup: Setup, from: &[u32], row: usize, to: &mut [u32], into: usize)
+    requires { ⌜ (wordIndex setup row 0 + setup .words ≤ length (now from)) × (wordIndex setup into 0 + setup .words ≤ length (now to)) ⌝ }
+    ensures { λ _. ⌜ now (to .exit) ≡ sets (now (to .entry)) (wordIndex setup into 0) (part (now (from .entry)) (wordIndex setup row 0) (setup .words)) ⌝ }
+{
+    let n = setup.words as usize;
+    copy_part(from, row * n, to, into * n, n);
 }

@@ -1,4 +1,4 @@
--- At j the search of what is left finds the owner; it ends at the first that owns the block, or at the number of processors.
+-- At j the search of what is left finds the owner (protocol's laws of searches); it ends at the first that owns the block, or at the number of processors.
 use borrow.Author.Needs.{needs}
 use Prim.Native.Nat.{ℕ, _≤_, _-_}
 use mathlib.Core.Path.{_≡_, _∙_}
@@ -8,8 +8,9 @@ use denote.Ref.{now}
 use Rattle.protocol.specs.Lists.{firstFrom}
 use Rattle.protocol.specs.Tables.{tables}
 use Rattle.protocol.specs.Rules.{owner}
-use Rattle.engine_holders.specs.Places.{owns}
-use Rattle.engine_holders.proofs.Search.{started, found, passed, ended, owner-is}
+use Rattle.engine_holders.specs.Searches.{owns}
+use Rattle.protocol.proofs.Search.{search-started, search-found, search-passed, search-ended}
+use Rattle.engine_holders.proofs.Search.{owner-is}
 use Rattle.engine_holders.proofs.owner.Statement.{statement}
 use Rattle.engine_holders.proofs.owner.Tie as tie
 
@@ -28,7 +29,7 @@ loop-holds c =
     let a = start .args in (
       omega arith,
       λ w g. let t = tables (now (a .blocks)) (now (a .counters)) (now (a .marks)) w g in
-          started (owns (a .setup) t (a .block)) (a .setup .processors) ∙ owner-is (a .setup) t (a .block),
+          search-started (owns (a .setup) t (a .block)) (a .setup .processors) ∙ owner-is (a .setup) t (a .block),
     )
 
 loop-again : tie.Need-loop-again Inv-loop μ-loop
@@ -37,7 +38,7 @@ loop-again c =
     let loop′ = c .before .before .before .loop in
     let a = start .args in (
       omega arith,
-      λ w g. passed (owns (a .setup) (tables (now (a .blocks)) (now (a .counters)) (now (a .marks)) w g) (a .block)) (a .setup .processors) (loop′ .j) _
+      λ w g. search-passed (owns (a .setup) (tables (now (a .blocks)) (now (a .counters)) (now (a .marks)) w g) (a .block)) (a .setup .processors) (loop′ .j) _
           (loop′ .inv .1 w g) (c .before .owns .result) (omega arith) (c .before .owns .ensures w g) (c .if1 .left),
     )
 
@@ -45,7 +46,7 @@ returns : tie.Need-returns Inv-loop μ-loop
 returns c w g =
     let start = c .before .before .before .before .before in
     let a = start .args in
-    ended (owns (a .setup) (tables (now (a .blocks)) (now (a .counters)) (now (a .marks)) w g) (a .block)) (a .setup .processors) (c .before .loop .j) _
+    search-ended (owns (a .setup) (tables (now (a .blocks)) (now (a .counters)) (now (a .marks)) w g) (a .block)) (a .setup .processors) (c .before .loop .j) _
     (c .before .loop .inv .1 w g) (omega arith)
 
 returns-2 : tie.Need-returns-2 Inv-loop μ-loop
@@ -53,7 +54,7 @@ returns-2 c w g =
     let start = c .before .before .before .before .before .before .before in
     let loop′ = c .before .before .before .loop in
     let a = start .args in
-    found (owns (a .setup) (tables (now (a .blocks)) (now (a .counters)) (now (a .marks)) w g) (a .block)) (a .setup .processors) (loop′ .j) _
+    search-found (owns (a .setup) (tables (now (a .blocks)) (now (a .counters)) (now (a .marks)) w g) (a .block)) (a .setup .processors) (loop′ .j) _
     (loop′ .inv .1 w g) (c .before .owns .result) (omega arith) (c .before .owns .ensures w g) (c .if1 .taken)
 
 pub owner-spec : {M : Type 1} → statement M

@@ -4,7 +4,7 @@ use borrow.Author.Needs.{needs}
 use borrow.Author.Tests.{eq-eqb, ne-eqb}
 use Rattle.protocol.specs.Lists.{at}
 use Rattle.protocol.specs.Tables.{holds, marked}
-use Rattle.engine_holders.specs.Places.{owns}
+use Rattle.engine_holders.specs.Searches.{owns}
 use Rattle.engine_holders.proofs.owns.Statement.{statement}
 use Rattle.engine_holders.proofs.owns.Tie as tie
 
@@ -18,7 +18,8 @@ returns c w g =
 returns-2 : tie.Need-returns-2
 unfolding owns holds marked
 returns-2 c w g =
-    rw (← (c .before .before .before .slot .ensures .value), ← (c .line-holds .ensures _ w g))
+    let slot′ = c .before .before .before in
+    rw (← (slot′ .slot .ensures .value), ← (c .line-holds .ensures (slot′ .before .before .before .before .args .marks .now) w g))
     (simp (eq-eqb _ _ (c .before .if1 .left), and-true))
 
 pub owns-spec : {M : Type 1} → statement M

@@ -7,7 +7,7 @@ use native.Mathlib.Numerals.{add-one}
 use native.Mathlib.Omega.{arith}
 use denote.Ref.{now}
 use lib.ListN.{length}
-use Rattle.protocol.specs.Tables.{tables}
+use Rattle.protocol.specs.Tables.{tables, holdsAt, holds}
 use Rattle.protocol.specs.Rules.{updatedCopies}
 use Rattle.engine_holders.proofs.update_copies.Statement.{statement}
 use Rattle.engine_holders.proofs.update_copies.Tie as tie
@@ -26,6 +26,7 @@ loop-holds : tie.Need-loop-holds Inv-loop μ-loop
 loop-holds c = (omega arith, refl, λ m g. refl)
 
 loop-again : tie.Need-loop-again Inv-loop μ-loop
+unfolding holds holdsAt
 loop-again c =
     let start = c .before .before .before .before .before .before .before .before .before in
     let update-copy′ = c .before .before .update-copy in
@@ -33,7 +34,7 @@ loop-again c =
     let a = start .args in (
       omega arith,
       update-copy′ .kept .1 .1 .1 .1 .1 .1 .1 .0 ∙ loop′ .inv .1,
-      λ m g. update-copy′ .ensures m (now (a .words)) g ∙ rw (add-one, ← (loop′ .inv .2 m g)),
+      λ m g. update-copy′ .ensures m g ∙ rw (add-one, ← (loop′ .inv .2 m g)),
     )
 
 same-length : tie.Need-same-length Inv-loop μ-loop

@@ -1,7 +1,8 @@
--- A processor that does not hold the block keeps its words.
+-- A processor that does not hold the block keeps its words; the word lies within those of the slot of one that does (wordIndex-lt).
 use borrow.Author.Needs.{needs}
 use native.Mathlib.Omega.{arith}
 use borrow.Author.Tests.{not-true, not-false}
+use denote.Ref.{now}
 use Rattle.protocol.specs.Board.{slots}
 use Rattle.protocol.specs.Tables.{holds}
 use Rattle.protocol.proofs.Board.{wordIndex-lt}
@@ -10,9 +11,10 @@ use Rattle.engine_holders.proofs.update_copy.Tie as tie
 
 returns : tie.Need-returns
 unfolding holds
-returns c m w g =
-    let slot′ = c .before .before .slot in
-    rw (← (slot′ .ensures .value), ← (c .before .line-holds .ensures m w g), not-true (c .before .line-holds .result) (c .if1 .taken))
+returns c m g =
+    let slot′ = c .before .before in
+    let start = slot′ .before .before .before .before in
+    rw (← (slot′ .slot .ensures .value), ← (c .before .line-holds .ensures m (now (start .args .words)) g), not-true (c .before .line-holds .result) (c .if1 .taken))
 
 set-word-requires : tie.Need-set-word-requires
 set-word-requires c κs =
@@ -23,12 +25,14 @@ set-word-requires c κs =
 
 returns-2 : tie.Need-returns-2
 unfolding holds
-returns-2 c m w g =
-    let slot′ = c .before .before .before .before .before .before .slot in
-    let line-holds′ = c .before .before .before .before .before .line-holds in
-    let if1′ = c .before .before .before .before .if1 in
-    let set-word′ = c .before .before .set-word in
-    rw (← (slot′ .ensures .value), ← (line-holds′ .ensures m w g), not-false (line-holds′ .result) (if1′ .left)) (set-word′ .ensures)
+returns-2 c m g =
+    let set-word′ = c .before .before in
+    let if1′ = set-word′ .before .before in
+    let line-holds′ = if1′ .before .line-holds in
+    let slot′ = if1′ .before .before in
+    let start = slot′ .before .before .before .before in
+    rw (← (slot′ .slot .ensures .value), ← (line-holds′ .ensures m (now (start .args .words)) g), not-false (line-holds′ .result) (if1′ .if1 .left))
+    (set-word′ .set-word .ensures)
 
 pub update-copy-spec : {M : Type 1} → statement M
 update-copy-spec =

@@ -1,3 +1,4 @@
+-- The part lies within the words, and comes back cleared (part-cleared).
 use denote.Ref.{now}
 use Rattle.parts.proofs.Laws.{part-cleared}
 use borrow.Author.Needs.{needs}

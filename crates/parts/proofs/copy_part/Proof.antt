@@ -1,3 +1,4 @@
+-- Both parts lie within their slices, and the second comes back as the first (part-copied).
 use denote.Ref.{now}
 use Rattle.parts.proofs.Laws.{part-copied}
 use borrow.Author.Needs.{needs}

@@ -3,8 +3,8 @@ use borrow.Author.Needs.{needs}
 use mathlib.Core.Path.{refl}
 use native.Mathlib.Omega.{arith}
 use Rattle.protocol.specs.Board.{wordIndex}
-use Rattle.engine_holders.proofs.word_of.Statement.{statement}
-use Rattle.engine_holders.proofs.word_of.Tie as tie
+use Rattle.parts.proofs.word_of.Statement.{statement}
+use Rattle.parts.proofs.word_of.Tie as tie
 
 mul-k : tie.Need-mul-k
 unfolding wordIndex

@@ -1,0 +1,27 @@
+-- The tests that the searches make, what they find, and one copy updated.
+use Prim.Native.Nat.{ℕ}
+use mathlib.Core.Bool.{Bool, not, _&&_, cond}
+use mathlib.Core.List.{List}
+use lib.ListN.{set}
+use lib.Dec.{eqb}
+use Rattle.protocol.specs.Lists.{other}
+use Rattle.protocol.specs.Board.{slot, wordIndex}
+use Rattle.protocol.specs.Tables.{Tables, holds, marked}
+use Rattle.protocol.specs.declared.Setup.{Setup}
+use Rattle.protocol.specs.declared.Block.{Block}
+
+-- processor j is another one than i and holds block b
+unfoldable pub otherHolds : Setup → Tables → ℕ → Block → ℕ → Bool
+otherHolds s t i b j = not (eqb j i) && holds s t j b
+
+-- the first such: what protocol's `sharing` and `payer` look for
+unfoldable pub otherHolder : Setup → Tables → ℕ → Block → ℕ
+otherHolder s t i b = other (s .processors) i (λ j. holds s t j b)
+
+-- processor j has block b marked: the owner is the first such
+unfoldable pub owns : Setup → Tables → Block → ℕ → Bool
+owns s t b j = holds s t j b && marked t (slot s j b)
+
+-- the words, with word o of block b changed in processor j's copy if it has one: a step of protocol's `updatedCopies`
+abbrev pub updatedCopy : Setup → Tables → Block → ℕ → ℕ → ℕ → List ℕ
+updatedCopy s t b o x j = cond (holds s t j b) (set (t .words) (wordIndex s (slot s j b) o) x) (t .words)
