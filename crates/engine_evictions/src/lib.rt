@@ -1,35 +1,16 @@
 // A line of a cache emptied, and its block written back.
-use parts::clear_part;
-use parts::copy_part;
+use parts::clear_row;
+use parts::copy_row;
 use protocol::Setup;
 ghost use mathlib.Core.Path.{_≡_};
 ghost use mathlib.Core.List.{List};
-ghost use Prim.Native.Nat.{ℕ, _+_, _*_, _≤_, _<_};
-ghost use lib.ListN.{length};
-ghost use lib.Seq.{sets};
-ghost use Rattle.protocol.specs.Lists.{at, part, zeros};
-ghost use Rattle.protocol.specs.Board.{slots, wordIndex, variables};
-ghost use Rattle.protocol.specs.Tables.{tables, Sized};
+ghost use Prim.Native.Nat.{ℕ, _<_};
+ghost use Rattle.protocol.specs.Lists.{at};
+ghost use Rattle.protocol.specs.Board.{slots};
+ghost use Rattle.protocol.specs.Tables.{Sized};
+ghost use Rattle.protocol.specs.Lent.{lent, before, after};
 ghost use Rattle.protocol.specs.Rules.{emptied, writtenBack, saved, saveCycles, evicted};
-ghost use Rattle.engine_evictions.specs.Lent.{lent};
-
-// The words of a row become 0.
-fn clear_row(setup: Setup, row: usize, words: &mut [u32])
-    requires { ⌜ wordIndex setup row 0 + setup .words ≤ length (now words) ⌝ }
-    ensures { λ _. ⌜ now (words .exit) ≡ sets (now (words .entry)) (wordIndex setup row 0) (zeros (setup .words)) ⌝ }
-{
-    let n = setup.words as usize;
-    clear_part(words, row * n, n);
-}
-
-// The words of row `into` of `to` become those of row `row` of `from`.
-pub fn copy_row(setup: Setup, from: &[u32], row: usize, to: &mut [u32], into: usize)
-    requires { ⌜ (wordIndex setup row 0 + setup .words ≤ length (now from)) × (wordIndex setup into 0 + setup .words ≤ length (now to)) ⌝ }
-    ensures { λ _. ⌜ now (to .exit) ≡ sets (now (to .entry)) (wordIndex setup into 0) (part (now (from .entry)) (wordIndex setup row 0) (setup .words)) ⌝ }
-{
-    let n = setup.words as usize;
-    copy_part(from, row * n, to, into * n, n);
-}
+ghost use Rattle.parts.specs.Unlent.{unlent, PerSlot, PerSlotWord, PerVariable};
 
 // Slot k becomes empty.
 pub fn empty_line(
@@ -41,8 +22,8 @@ pub fn empty_line(
     words: &mut [u32],
 )
     requires { ⌜ k < slots setup ⌝ }
-    requires { ⌜ (length (now blocks) ≡ slots setup) × (length (now counters) ≡ slots setup) × (length (now marks) ≡ slots setup) × (length (now words) ≡ slots setup * setup .words) ⌝ }
-    ensures { λ _. ⌜ ((g : List ℕ) → tables (now (blocks .exit)) (now (counters .exit)) (now (marks .exit)) (now (words .exit)) g ≡ emptied setup (tables (now (blocks .entry)) (now (counters .entry)) (now (marks .entry)) (now (words .entry)) g) k) ⌝ }
+    requires { ⌜ PerSlot setup blocks × PerSlot setup counters × PerSlot setup marks × PerSlotWord setup words ⌝ }
+    ensures { λ _. ⌜ ((g : List ℕ) → after blocks counters marks words (unlent g) ≡ emptied setup (before blocks counters marks words (unlent g)) k) ⌝ }
 {
     blocks[k] = 0;
     counters[k] = 0;
@@ -61,8 +42,8 @@ pub fn write_back(
 )
     requires { ⌜ from < slots setup ⌝ }
     requires { ⌜ at (now blocks) from < setup .blocks ⌝ }
-    requires { ⌜ (length (now blocks) ≡ slots setup) × (length (now marks) ≡ slots setup) × (length (now words) ≡ slots setup * setup .words) × (length (now memory) ≡ variables setup) ⌝ }
-    ensures { λ _. ⌜ ((c : List ℕ) → tables (now (blocks .entry)) c (now (marks .exit)) (now (words .entry)) (now (memory .exit)) ≡ writtenBack setup (tables (now (blocks .entry)) c (now (marks .entry)) (now (words .entry)) (now (memory .entry))) from) ⌝ }
+    requires { ⌜ PerSlot setup blocks × PerSlot setup marks × PerSlotWord setup words × PerVariable setup memory ⌝ }
+    ensures { λ _. ⌜ ((c : List ℕ) → after blocks (unlent c) marks words memory ≡ writtenBack setup (before blocks (unlent c) marks words memory) from) ⌝ }
 {
     let block = blocks[from] as usize;
     marks[from] = 0;
@@ -80,8 +61,9 @@ fn save(
 ) -> u32
     requires { ⌜ k < slots setup ⌝ }
     requires { ⌜ at (now blocks) k < setup .blocks ⌝ }
-    requires { ⌜ (length (now blocks) ≡ slots setup) × (length (now marks) ≡ slots setup) × (length (now words) ≡ slots setup * setup .words) × (length (now memory) ≡ variables setup) ⌝ }
-    ensures { λ r. ⌜ ((c : List ℕ) → let t = tables (now (blocks .entry)) c (now (marks .entry)) (now (words .entry)) (now (memory .entry)) in (r ≡ saveCycles setup t k) × (tables (now (blocks .entry)) c (now (marks .exit)) (now (words .entry)) (now (memory .exit)) ≡ saved setup t k)) ⌝ }
+    requires { ⌜ PerSlot setup blocks × PerSlot setup marks × PerSlotWord setup words × PerVariable setup memory ⌝ }
+    ensures { λ r. ⌜ ((c : List ℕ) → r ≡ saveCycles setup (before blocks (unlent c) marks words memory) k) ⌝ }
+    ensures { λ _. ⌜ ((c : List ℕ) → after blocks (unlent c) marks words memory ≡ saved setup (before blocks (unlent c) marks words memory) k) ⌝ }
 {
     if marks[k] != 1 {
         return 0;
@@ -103,7 +85,8 @@ pub fn evict(
     requires { ⌜ k < slots setup ⌝ }
     requires { ⌜ at (now blocks) k < setup .blocks ⌝ }
     requires { ⌜ Sized setup (lent blocks counters marks words memory) ⌝ }
-    ensures { λ r. ⌜ (let t = lent (blocks .entry) (counters .entry) (marks .entry) (words .entry) (memory .entry) in (r ≡ saveCycles setup t k) × (lent (blocks .exit) (counters .exit) (marks .exit) (words .exit) (memory .exit) ≡ evicted setup t k)) ⌝ }
+    ensures { λ r. ⌜ r ≡ saveCycles setup (before blocks counters marks words memory) k ⌝ }
+    ensures { λ _. ⌜ after blocks counters marks words memory ≡ evicted setup (before blocks counters marks words memory) k ⌝ }
 {
     let cycles = save(setup, k, blocks, marks, words, memory);
     empty_line(setup, k, blocks, counters, marks, words);

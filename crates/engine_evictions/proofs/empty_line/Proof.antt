@@ -15,8 +15,7 @@ clear-row-requires c κs =
 returns : tie.Need-returns
 unfolding emptied
 returns c g =
-    let clear-row′ = c .before .before .clear-row in
-    rw (clear-row′ .ensures)
+    rw (c .before .before .clear-row .ensures)
 
 pub empty-line-spec : {M : Type 1} → statement M
 empty-line-spec =

@@ -1,4 +1,4 @@
--- Saved, then emptied.
+-- The slot is saved, then emptied.
 use borrow.Author.Needs.{needs}
 use mathlib.Core.Path.{ap, _∙_}
 use denote.Ref.{now}
@@ -10,12 +10,12 @@ use Rattle.engine_evictions.proofs.evict.Tie as tie
 returns : tie.Need-returns
 unfolding evicted
 returns c =
-    let start = c .before .before .before .before .before .before .before .before .before .before .before .before .before .before .before .before .before .before .before .before .before .before .before .before .before .before .before in
-    let save′ = c .before .before .before .before .before .before .before .before .before .before .before .before .before .before .before .before .before .save in
-    let empty-line′ = c .before .before .before .before .before .before .before .before .empty-line in
+    let empty-line′ = c .before .before .before .before .before .before .before .before in
+    let save′ = empty-line′ .before .before .before .before .before .before .before .before .before in
+    let start = save′ .before .before .before .before .before .before .before .before .before .before in
     let a = start .args in
-    let e = save′ .ensures (now (a .counters)) in
-    (e .0, empty-line′ .ensures _ ∙ ap (λ (t : Tables). emptied (a .setup) t (a .k)) (e .1))
+    let cs = now (a .counters) in
+    (save′ .save .ensures .0 cs, empty-line′ .empty-line .ensures _ ∙ ap (λ (t : Tables). emptied (a .setup) t (a .k)) (save′ .save .ensures .1 cs))
 
 pub evict-spec : {M : Type 1} → statement M
 evict-spec =

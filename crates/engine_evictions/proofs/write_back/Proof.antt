@@ -19,8 +19,7 @@ copy-row-requires c κs =
 returns : tie.Need-returns
 unfolding writtenBack lineWords
 returns c cs =
-    let copy-row′ = c .before .before .copy-row in
-    rw (copy-row′ .ensures)
+    rw (c .before .before .copy-row .ensures)
 
 pub write-back-spec : {M : Type 1} → statement M
 write-back-spec =
