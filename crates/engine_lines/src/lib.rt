@@ -1,20 +1,19 @@
 // A line of a cache filled by a fetch, and charged.
-use engine_evictions::copy_row;
 use engine_evictions::empty_line;
 use engine_evictions::write_back;
 use engine_holders::owner;
-use engine_holders::slot;
+use parts::copy_row;
 use protocol::Block;
 use protocol::Setup;
 ghost use mathlib.Core.Path.{_≡_};
 ghost use mathlib.Core.List.{List};
-ghost use Prim.Native.Nat.{ℕ, _*_, _≤_, _<_};
-ghost use lib.ListN.{length};
+ghost use Prim.Native.Nat.{ℕ, _≤_, _<_};
 ghost use Rattle.protocol.specs.Lists.{at};
 ghost use Rattle.protocol.specs.Board.{Fits, slots};
-ghost use Rattle.protocol.specs.Tables.{tables, Sized};
+ghost use Rattle.protocol.specs.Tables.{Sized};
+ghost use Rattle.protocol.specs.Lent.{lent, before, after};
 ghost use Rattle.protocol.specs.Rules.{released, filled, fetched, charged};
-ghost use Rattle.engine_evictions.specs.Lent.{lent};
+ghost use Rattle.parts.specs.Unlent.{unlent, PerSlot, PerSlotWord};
 
 // Main memory takes the words of the cache that has a block marked, whose mark clears.
 fn release(
@@ -29,13 +28,13 @@ fn release(
     requires { ⌜ Fits setup ⌝ }
     requires { ⌜ block .0 < setup .blocks ⌝ }
     requires { ⌜ Sized setup (lent blocks counters marks words memory) ⌝ }
-    ensures { λ _. ⌜ lent (blocks .exit) (counters .exit) (marks .exit) (words .exit) (memory .exit) ≡ released setup (lent (blocks .entry) (counters .entry) (marks .entry) (words .entry) (memory .entry)) block ⌝ }
+    ensures { λ _. ⌜ after blocks counters marks words memory ≡ released setup (before blocks counters marks words memory) block ⌝ }
 {
     let j = owner(setup, block, blocks, counters, marks);
     if setup.processors <= j {
         return;
     }
-    write_back(setup, slot(setup, j, block), blocks, marks, words, memory);
+    write_back(setup, setup.slot(j, block), blocks, marks, words, memory);
 }
 
 // Slot k gets a block, with main memory's words.
@@ -52,7 +51,7 @@ fn fill(
     requires { ⌜ k < slots setup ⌝ }
     requires { ⌜ block .0 < setup .blocks ⌝ }
     requires { ⌜ Sized setup (lent blocks counters marks words memory) ⌝ }
-    ensures { λ _. ⌜ lent (blocks .exit) (counters .exit) (marks .exit) (words .exit) (memory .exit) ≡ filled setup (lent (blocks .entry) (counters .entry) (marks .entry) (words .entry) (memory .entry)) k block ⌝ }
+    ensures { λ _. ⌜ after blocks counters marks words memory ≡ filled setup (before blocks counters marks words memory) k block ⌝ }
 {
     blocks[k] = block.0;
     counters[k] = setup.fetch_price();
@@ -75,7 +74,7 @@ pub fn fetch(
     requires { ⌜ k < slots setup ⌝ }
     requires { ⌜ block .0 < setup .blocks ⌝ }
     requires { ⌜ Sized setup (lent blocks counters marks words memory) ⌝ }
-    ensures { λ _. ⌜ lent (blocks .exit) (counters .exit) (marks .exit) (words .exit) (memory .exit) ≡ fetched setup (lent (blocks .entry) (counters .entry) (marks .entry) (words .entry) (memory .entry)) k block ⌝ }
+    ensures { λ _. ⌜ after blocks counters marks words memory ≡ fetched setup (before blocks counters marks words memory) k block ⌝ }
 {
     release(setup, block, blocks, counters, marks, words, memory);
     fill(setup, k, block, blocks, counters, marks, words, memory);
@@ -92,8 +91,8 @@ pub fn charge(
 )
     requires { ⌜ k < slots setup ⌝ }
     requires { ⌜ 1 ≤ at (now counters) k ⌝ }
-    requires { ⌜ (length (now blocks) ≡ slots setup) × (length (now counters) ≡ slots setup) × (length (now marks) ≡ slots setup) × (length (now words) ≡ slots setup * setup .words) ⌝ }
-    ensures { λ _. ⌜ ((g : List ℕ) → tables (now (blocks .exit)) (now (counters .exit)) (now (marks .exit)) (now (words .exit)) g ≡ charged setup (tables (now (blocks .entry)) (now (counters .entry)) (now (marks .entry)) (now (words .entry)) g) k) ⌝ }
+    requires { ⌜ PerSlot setup blocks × PerSlot setup counters × PerSlot setup marks × PerSlotWord setup words ⌝ }
+    ensures { λ _. ⌜ ((g : List ℕ) → after blocks counters marks words (unlent g) ≡ charged setup (before blocks counters marks words (unlent g)) k) ⌝ }
 {
     if counters[k] == 1 {
         empty_line(setup, k, blocks, counters, marks, words);

@@ -1,20 +1,19 @@
 // A processor that holds a block writes a word of it.
 use engine_holders::payer;
-use engine_holders::set_word;
-use engine_holders::slot;
 use engine_holders::update_copies;
 use engine_lines::charge;
+use parts::set_word;
 use protocol::Block;
 use protocol::Setup;
 ghost use mathlib.Core.Path.{_≡_};
 ghost use mathlib.Core.List.{List};
-ghost use Prim.Native.Nat.{ℕ, _*_, _≤_, _<_};
-ghost use lib.ListN.{length};
+ghost use Prim.Native.Nat.{ℕ, _≤_, _<_};
 ghost use Rattle.protocol.specs.Lists.{at};
-ghost use Rattle.protocol.specs.Board.{Fits, slots, variables};
-ghost use Rattle.protocol.specs.Tables.{tables, Sized};
+ghost use Rattle.protocol.specs.Board.{Fits, slots};
+ghost use Rattle.protocol.specs.Tables.{Sized};
+ghost use Rattle.protocol.specs.Lent.{lent, before, after};
 ghost use Rattle.protocol.specs.Rules.{writtenAlone, broadcast, charged, written, updateCycles};
-ghost use Rattle.engine_evictions.specs.Lent.{lent};
+ghost use Rattle.parts.specs.Unlent.{unlent, PerSlot, PerSlotWord, PerVariable};
 
 // The only holder, at slot k, writes: its word changes and it is marked.
 fn write_alone(
@@ -29,8 +28,8 @@ fn write_alone(
     requires { ⌜ Fits setup ⌝ }
     requires { ⌜ k < slots setup ⌝ }
     requires { ⌜ offset < setup .words ⌝ }
-    requires { ⌜ (length (now counters) ≡ slots setup) × (length (now marks) ≡ slots setup) × (length (now words) ≡ slots setup * setup .words) ⌝ }
-    ensures { λ _. ⌜ ((b g : List ℕ) → tables b (now (counters .exit)) (now (marks .exit)) (now (words .exit)) g ≡ writtenAlone setup (tables b (now (counters .entry)) (now (marks .entry)) (now (words .entry)) g) k offset value) ⌝ }
+    requires { ⌜ PerSlot setup counters × PerSlot setup marks × PerSlotWord setup words ⌝ }
+    ensures { λ _. ⌜ ((b g : List ℕ) → after (unlent b) counters marks words (unlent g) ≡ writtenAlone setup (before (unlent b) counters marks words (unlent g)) k offset value) ⌝ }
 {
     let full = setup.fetch_price();
     counters[k] = full;
@@ -54,8 +53,8 @@ fn broadcast(
     requires { ⌜ writer < slots setup ⌝ }
     requires { ⌜ block .0 < setup .blocks ⌝ }
     requires { ⌜ offset < setup .words ⌝ }
-    requires { ⌜ (length (now blocks) ≡ slots setup) × (length (now counters) ≡ slots setup) × (length (now words) ≡ slots setup * setup .words) × (length (now memory) ≡ variables setup) ⌝ }
-    ensures { λ _. ⌜ ((m : List ℕ) → tables (now (blocks .entry)) (now (counters .exit)) m (now (words .exit)) (now (memory .exit)) ≡ broadcast setup (tables (now (blocks .entry)) (now (counters .entry)) m (now (words .entry)) (now (memory .entry))) writer block offset value) ⌝ }
+    requires { ⌜ PerSlot setup blocks × PerSlot setup counters × PerSlotWord setup words × PerVariable setup memory ⌝ }
+    ensures { λ _. ⌜ ((m : List ℕ) → after blocks counters (unlent m) words memory ≡ broadcast setup (before blocks counters (unlent m) words memory) writer block offset value) ⌝ }
 {
     update_copies(setup, block, offset, value, blocks, counters, words);
     set_word(setup, block.0 as usize, offset, value, memory);
@@ -83,7 +82,7 @@ fn write_shared(
     requires { ⌜ offset < setup .words ⌝ }
     requires { ⌜ 1 ≤ at (now counters) payer ⌝ }
     requires { ⌜ Sized setup (lent blocks counters marks words memory) ⌝ }
-    ensures { λ _. ⌜ lent (blocks .exit) (counters .exit) (marks .exit) (words .exit) (memory .exit) ≡ charged setup (broadcast setup (lent (blocks .entry) (counters .entry) (marks .entry) (words .entry) (memory .entry)) writer block offset value) payer ⌝ }
+    ensures { λ _. ⌜ after blocks counters marks words memory ≡ charged setup (broadcast setup (before blocks counters marks words memory) writer block offset value) payer ⌝ }
 {
     broadcast(
         setup,
@@ -117,9 +116,10 @@ pub fn write(
     requires { ⌜ block .0 < setup .blocks ⌝ }
     requires { ⌜ offset < setup .words ⌝ }
     requires { ⌜ Sized setup (lent blocks counters marks words memory) ⌝ }
-    ensures { λ r. ⌜ (let t = lent (blocks .entry) (counters .entry) (marks .entry) (words .entry) (memory .entry) in (r ≡ updateCycles setup t processor block) × (lent (blocks .exit) (counters .exit) (marks .exit) (words .exit) (memory .exit) ≡ written setup t processor block offset value)) ⌝ }
+    ensures { λ r. ⌜ r ≡ updateCycles setup (before blocks counters marks words memory) processor block ⌝ }
+    ensures { λ _. ⌜ after blocks counters marks words memory ≡ written setup (before blocks counters marks words memory) processor block offset value ⌝ }
 {
-    let k = slot(setup, processor, block);
+    let k = setup.slot(processor, block);
     let j = payer(setup, processor, block, blocks, counters);
     if setup.processors <= j {
         write_alone(setup, k, offset, value, counters, marks, words);
@@ -128,7 +128,7 @@ pub fn write(
     write_shared(
         setup,
         k,
-        slot(setup, j, block),
+        setup.slot(j, block),
         block,
         offset,
         value,

@@ -1,4 +1,4 @@
--- The row of a slot lies within the words.
+-- The row of a slot lies within the words (row-end).
 use borrow.Author.Needs.{needs}
 use native.Mathlib.Omega.{arith}
 use Rattle.protocol.specs.Board.{slots}

@@ -1,4 +1,4 @@
--- The rows of the slot and of its block lie within their tables.
+-- The rows of the slot and of its block lie within their tables (row-end).
 use borrow.Author.Needs.{needs}
 use native.Mathlib.Omega.{arith}
 use denote.Ref.{now}

@@ -1,4 +1,4 @@
--- The counter decides.
+-- The counter decides: at 1 the line is emptied.
 use borrow.Author.Needs.{needs}
 use borrow.Author.Tests.{eq-eqb, ne-eqb}
 use denote.Ref.{now}
@@ -10,10 +10,10 @@ use Rattle.engine_lines.proofs.charge.Tie as tie
 returns : tie.Need-returns
 unfolding charged
 returns c g =
-    let start = c .before .before .before .before .before .before .before .before .before .before .before .before .before .before .before .before .before .before .before in
-    let if1′ = c .before .before .before .before .before .before .before .before .before .before .before .before .before .if1 in
-    let empty-line′ = c .before .before .before .before .before .before .before .before .empty-line in
-    rw (eq-eqb (at (now (start .args .counters)) (start .args .k)) 1 (if1′ .taken)) (empty-line′ .ensures g)
+    let empty-line′ = c .before .before .before .before .before .before .before .before in
+    let if1′ = empty-line′ .before .before .before .before .before in
+    let start = if1′ .before .before .before .before .before .before in
+    rw (eq-eqb (at (now (start .args .counters)) (start .args .k)) 1 (if1′ .if1 .taken)) (empty-line′ .empty-line .ensures g)
 
 returns-2 : tie.Need-returns-2
 unfolding charged

@@ -1,4 +1,4 @@
--- Released, then filled.
+-- The block is released, then the slot is filled.
 use borrow.Author.Needs.{needs}
 use mathlib.Core.Path.{ap, _∙_}
 use Rattle.protocol.specs.Tables.{Tables}
@@ -9,10 +9,11 @@ use Rattle.engine_lines.proofs.fetch.Tie as tie
 returns : tie.Need-returns
 unfolding fetched
 returns c =
-    let start = c .before .before .before .before .before .before .before .before .before .before .before .before .before .before .before .before .before .before .before .before .before .before .before .before .before .before .before .before .before in
-    let fill′ = c .before .before .before .before .before .before .before .before .fill in
-    let release′ = c .before .before .before .before .before .before .before .before .before .before .before .before .before .before .before .before .before .before .release in
-    let a = start .args in fill′ .ensures ∙ ap (λ (t : Tables). filled (a .setup) t (a .k) (a .block)) (release′ .ensures)
+    let fill′ = c .before .before .before .before .before .before .before .before in
+    let release′ = fill′ .before .before .before .before .before .before .before .before .before .before in
+    let start = release′ .before .before .before .before .before .before .before .before .before .before .before in
+    let a = start .args in
+    fill′ .fill .ensures ∙ ap (λ (t : Tables). filled (a .setup) t (a .k) (a .block)) (release′ .release .ensures)
 
 pub fetch-spec : {M : Type 1} → statement M
 fetch-spec =

@@ -1,4 +1,4 @@
--- The rows of the slot and of the block lie within their tables.
+-- The rows of the slot and of the block lie within their tables (row-end).
 use borrow.Author.Needs.{needs}
 use native.Mathlib.Omega.{arith}
 use Rattle.protocol.specs.Board.{slots}
@@ -17,9 +17,8 @@ copy-row-requires c κs =
 returns : tie.Need-returns
 unfolding filled memoryWords
 returns c =
-    let copy-row′ = c .before .before .copy-row in
-    let fetch-price′ = c .before .before .before .before .before .fetch-price in
-    rw (copy-row′ .ensures, fetch-price′ .ensures)
+    let fetch-price′ = c .before .before .before .before .before in
+    rw (c .before .before .copy-row .ensures, fetch-price′ .fetch-price .ensures)
 
 pub fill-spec : {M : Type 1} → statement M
 fill-spec =

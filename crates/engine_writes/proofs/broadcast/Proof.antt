@@ -16,10 +16,10 @@ set-word-requires c κs =
 returns : tie.Need-returns
 unfolding broadcast
 returns c m =
-    let update-copies′ = c .before .before .before .before .before .before .before .before .update-copies in
-    let start = c .before .before .before .before .before .before .before .before .before .before .before .before .before .before .before in
-    let set-word′ = c .before .before .before .set-word in
-    simp (update-copies′ .ensures m (now (start .args .memory)), set-word′ .ensures, c .fetch-price .ensures)
+    let set-word′ = c .before .before .before in
+    let update-copies′ = set-word′ .before .before .before .before .before in
+    let start = update-copies′ .before .before .before .before .before .before .before in
+    simp (update-copies′ .update-copies .ensures m (now (start .args .memory)), set-word′ .set-word .ensures, c .fetch-price .ensures)
 
 pub broadcast-spec : {M : Type 1} → statement M
 broadcast-spec =

@@ -16,9 +16,8 @@ set-word-requires c κs =
 returns : tie.Need-returns
 unfolding writtenAlone
 returns c b g =
-    let set-word′ = c .before .before .set-word in
-    let fetch-price′ = c .before .before .before .before .fetch-price in
-    simp (set-word′ .ensures, fetch-price′ .ensures)
+    let fetch-price′ = c .before .before .before .before in
+    simp (c .before .before .set-word .ensures, fetch-price′ .fetch-price .ensures)
 
 pub write-alone-spec : {M : Type 1} → statement M
 write-alone-spec =

@@ -13,14 +13,14 @@ use Rattle.engine_writes.proofs.write_shared.Tie as tie
 charge-requires : tie.Need-charge-requires
 unfolding broadcast
 charge-requires c κs =
-    let start = c .before .before .before .before .before .before .before .before .before .before .before .before .before .before .before .before .before .before .before .before in
-    let broadcast′ = c .before .before .before .before .before .before .before .before .before .before .broadcast in
+    let broadcast′ = c .before .before .before .before .before .before .before .before .before .before in
+    let start = broadcast′ .before .before .before .before .before .before .before .before .before .before in
     let a = start .args in
     let sized = start .pre .1 .1 .1 .1 .1 in
-    let kept = broadcast′ .kept .1 .1 .1 .1 .1 .1 in (
+    let kept = broadcast′ .broadcast .kept .1 .1 .1 .1 .1 .1 in (
       start .pre .1 .0 .1,
       (
-        rw (ap (λ (t : Tables). t .counters) (broadcast′ .ensures (now (a .marks))))
+        rw (ap (λ (t : Tables). t .counters) (broadcast′ .broadcast .ensures (now (a .marks))))
             (at-set (λ (x : ℕ). 1 ≤ x) (now (a .counters)) (a .writer) (fetchPrice (a .setup)) (a .payer) (start .pre .0 .some-fetch) (start .pre .1 .1 .1 .1 .0)),
         (sized .blocks, kept .0 ∙ sized .counters, sized .marks, kept .1 .0 ∙ sized .words),
       ),
@@ -28,11 +28,11 @@ charge-requires c κs =
 
 returns : tie.Need-returns
 returns c =
-    let start = c .before .before .before .before .before .before .before .before .before .before .before .before .before .before .before .before .before .before .before .before .before .before .before .before .before .before .before .before .before in
-    let charge′ = c .before .before .before .before .before .before .before .before .charge in
-    let broadcast′ = c .before .before .before .before .before .before .before .before .before .before .before .before .before .before .before .before .before .before .before .broadcast in
+    let charge′ = c .before .before .before .before .before .before .before .before in
+    let broadcast′ = charge′ .before .before .before .before .before .before .before .before .before .before .before in
+    let start = broadcast′ .before .before .before .before .before .before .before .before .before .before in
     let a = start .args in
-    charge′ .ensures _ ∙ ap (λ (t : Tables). charged (a .setup) t (a .payer)) (broadcast′ .ensures (now (a .marks)))
+    charge′ .charge .ensures _ ∙ ap (λ (t : Tables). charged (a .setup) t (a .payer)) (broadcast′ .broadcast .ensures (now (a .marks)))
 
 pub write-shared-spec : {M : Type 1} → statement M
 write-shared-spec =
