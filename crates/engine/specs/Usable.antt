@@ -1,10 +1,16 @@
--- What the lent tables must be for a request to be served, and the bill of getting a block.
+-- What the lent tables must be for a request to be served, the bill of getting a block, and reads and writes as accesses.
 use Prim.Native.Nat.{ℕ, _<_}
 use Rattle.protocol.specs.Tables.{Tables, Sized, block}
 use Rattle.protocol.specs.Rules.{fetchCycles, writeBackCycles}
 use Rattle.protocol.specs.declared.Setup.{Setup}
 use Rattle.protocol.specs.declared.Block.{Block}
 use Rattle.protocol.specs.declared.Bill.{Bill}
+use Rattle.protocol.specs.declared.Operation.{Operation}
+use Rattle.protocol.specs.declared.Operation.the-variants.{Read, Write}
+use Rattle.protocol.specs.declared.Variable.{Variable}
+use Rattle.engine.specs.declared.Effect.{Effect}
+use Rattle.engine.specs.declared.Effect.the-variants.{Supply, Store}
+use Rattle.engine.specs.declared.Access.{Access}
 
 -- tables of the right lengths, which name no block outside main memory
 pub record Usable (s : Setup) (t : Tables) : Type 0 where
@@ -14,3 +20,11 @@ pub record Usable (s : Setup) (t : Tables) : Type 0 where
 -- the cycles until processor i holds block b
 unfoldable pub obtainBill : Setup → Tables → ℕ → Block → Bill
 obtainBill s t i b = record { fetch = fetchCycles s t i b; «write_back» = writeBackCycles s t i b; update = 0 }
+
+-- the operation that an access is
+abbrev pub operationBy : Variable → Effect → Operation
+operationBy v Supply = Read v
+operationBy v (Store x) = Write v x
+
+abbrev pub operationOf : Access → Operation
+operationOf a = operationBy (a .variable) (a .effect)

@@ -1,22 +1,22 @@
 // One request, served on the lent tables.
 use engine_evictions::evict;
 use engine_holders::holds;
-use engine_holders::slot;
-use engine_holders::word_of;
 use engine_lines::fetch;
 use engine_writes::write;
+use parts::word_of;
 use protocol::Bill;
 use protocol::Block;
 use protocol::Operation;
 use protocol::Request;
 use protocol::Setup;
+use protocol::Variable;
 ghost use mathlib.Core.Path.{_≡_};
 ghost use Prim.Native.Nat.{_<_};
-ghost use Rattle.protocol.specs.Board.{Fits};
+ghost use Rattle.protocol.specs.Board.{Fits, variables};
+ghost use Rattle.protocol.specs.Lent.{lent, before, after};
 ghost use Rattle.protocol.specs.Rules.{obtained};
-ghost use Rattle.protocol.specs.Requests.{Valid, value, bill, served};
-ghost use Rattle.engine_evictions.specs.Lent.{lent};
-ghost use Rattle.engine.specs.Usable.{Usable, obtainBill};
+ghost use Rattle.protocol.specs.Requests.{Valid, valueBy, billBy, servedBy, value, bill, served};
+ghost use Rattle.engine.specs.Usable.{Usable, obtainBill, operationOf};
 
 // The value that a request supplies or writes, and its cycles.
 pub struct Served {
@@ -39,7 +39,8 @@ fn obtain(
     requires { ⌜ processor < setup .processors ⌝ }
     requires { ⌜ block .0 < setup .blocks ⌝ }
     requires { ⌜ Usable setup (lent blocks counters marks words memory) ⌝ }
-    ensures { λ r. ⌜ (let t = lent (blocks .entry) (counters .entry) (marks .entry) (words .entry) (memory .entry) in (r ≡ obtainBill setup t processor block) × (lent (blocks .exit) (counters .exit) (marks .exit) (words .exit) (memory .exit) ≡ obtained setup t processor block)) ⌝ }
+    ensures { λ r. ⌜ r ≡ obtainBill setup (before blocks counters marks words memory) processor block ⌝ }
+    ensures { λ _. ⌜ after blocks counters marks words memory ≡ obtained setup (before blocks counters marks words memory) processor block ⌝ }
 {
     if holds(setup, processor, block, blocks, counters) {
         return Bill {
@@ -48,7 +49,7 @@ fn obtain(
             update: 0,
         };
     }
-    let k = slot(setup, processor, block);
+    let k = setup.slot(processor, block);
     let write_back = evict(setup, k, blocks, counters, marks, words, memory);
     fetch(setup, k, block, blocks, counters, marks, words, memory);
     Bill {
@@ -58,10 +59,23 @@ fn obtain(
     }
 }
 
-// One request is served.
-pub fn serve(
+// What an access does with the variable's word, once the processor holds its block.
+enum Effect {
+    Supply,
+    Store(u32),
+}
+
+// An operation on one variable: a read or a write.
+struct Access {
+    variable: Variable,
+    effect: Effect,
+}
+
+// A processor reads or writes a variable.
+fn serve_access(
     setup: Setup,
-    request: Request,
+    processor: u32,
+    access: Access,
     blocks: &mut [u32],
     counters: &mut [u32],
     marks: &mut [u32],
@@ -69,28 +83,39 @@ pub fn serve(
     memory: &mut [u32],
 ) -> Served
     requires { ⌜ Fits setup ⌝ }
-    requires { ⌜ Valid setup request ⌝ }
+    requires { ⌜ processor < setup .processors ⌝ }
+    requires { ⌜ access .variable .0 < variables setup ⌝ }
     requires { ⌜ Usable setup (lent blocks counters marks words memory) ⌝ }
-    ensures { λ r. ⌜ (let t = lent (blocks .entry) (counters .entry) (marks .entry) (words .entry) (memory .entry) in (r .value ≡ value setup t request) × (r .bill ≡ bill setup t request) × (lent (blocks .exit) (counters .exit) (marks .exit) (words .exit) (memory .exit) ≡ served setup t request)) ⌝ }
+    ensures { λ r. ⌜ r .value ≡ valueBy setup (before blocks counters marks words memory) processor (operationOf access) ⌝ }
+    ensures { λ r. ⌜ r .bill ≡ billBy setup (before blocks counters marks words memory) processor (operationOf access) ⌝ }
+    ensures { λ _. ⌜ after blocks counters marks words memory ≡ servedBy setup (before blocks counters marks words memory) processor (operationOf access) ⌝ }
 {
-    let i = request.processor;
-    let operation = request.operation;
-    let variable = request.variable();
+    let variable = access.variable;
+    let effect = access.effect;
     let block = setup.block_of(variable);
     let offset = setup.offset_of(variable);
-    let bill = obtain(setup, i, block, blocks, counters, marks, words, memory);
-    match operation {
-        Operation::Read(_) => {
-            let word = word_of(setup, slot(setup, i, block), offset, words);
+    let bill = obtain(
+        setup,
+        processor,
+        block,
+        blocks,
+        counters,
+        marks,
+        words,
+        memory,
+    );
+    match effect {
+        Effect::Supply => {
+            let word = word_of(setup, setup.slot(processor, block), offset, words);
             Served {
                 value: word,
                 bill: bill,
             }
         }
-        Operation::Write(_, value) => {
+        Effect::Store(value) => {
             let update = write(
                 setup,
-                i,
+                processor,
                 block,
                 offset,
                 value,
@@ -110,4 +135,44 @@ pub fn serve(
             }
         }
     }
+}
+
+// One request is served.
+pub fn serve(
+    setup: Setup,
+    request: Request,
+    blocks: &mut [u32],
+    counters: &mut [u32],
+    marks: &mut [u32],
+    words: &mut [u32],
+    memory: &mut [u32],
+) -> Served
+    requires { ⌜ Fits setup ⌝ }
+    requires { ⌜ Valid setup request ⌝ }
+    requires { ⌜ Usable setup (lent blocks counters marks words memory) ⌝ }
+    ensures { λ r. ⌜ r .value ≡ value setup (before blocks counters marks words memory) request ⌝ }
+    ensures { λ r. ⌜ r .bill ≡ bill setup (before blocks counters marks words memory) request ⌝ }
+    ensures { λ _. ⌜ after blocks counters marks words memory ≡ served setup (before blocks counters marks words memory) request ⌝ }
+{
+    let operation = request.operation;
+    let access = match operation {
+        Operation::Read(variable) => Access {
+            variable: variable,
+            effect: Effect::Supply,
+        },
+        Operation::Write(variable, value) => Access {
+            variable: variable,
+            effect: Effect::Store(value),
+        },
+    };
+    serve_access(
+        setup,
+        request.processor,
+        access,
+        blocks,
+        counters,
+        marks,
+        words,
+        memory,
+    )
 }

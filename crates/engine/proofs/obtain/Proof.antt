@@ -18,32 +18,32 @@ returns c =
 
 evict-requires : tie.Need-evict-requires
 evict-requires c κs =
-    let slot′ = c .before .before .before .before .before .slot in
-    let start = c .before .before .before .before .before .before .before .before .before .before .before .before .before .before .before in
-    (slot′ .ensures .within, (start .pre .1 .1 .1 .named (slot′ .result), start .pre .1 .1 .1 .lengths))
+    let slot′ = c .before .before .before .before .before in
+    let start = slot′ .before .before .before .before .before .before .before .before .before .before in
+    (slot′ .slot .ensures .within, (start .pre .1 .1 .1 .named (slot′ .slot .result), start .pre .1 .1 .1 .lengths))
 
 fetch-requires : tie.Need-fetch-requires
 fetch-requires c κs =
-    let start = c .before .before .before .before .before .before .before .before .before .before .before .before .before .before .before .before .before .before .before .before .before .before .before .before .before .before .before .before .before .before .before in
-    let slot′ = c .before .before .before .before .before .before .before .before .before .before .before .before .before .before .before .before .before .before .before .before .before .slot in
-    let evict′ = c .before .before .before .before .before .before .before .before .before .before .before .before .before .before .before .evict in
+    let evict′ = c .before .before .before .before .before .before .before .before .before .before .before .before .before .before .before in
+    let slot′ = evict′ .before .before .before .before .before .before in
+    let start = slot′ .before .before .before .before .before .before .before .before .before .before in
     let a = start .args in
     let t = tables (now (a .blocks)) (now (a .counters)) (now (a .marks)) (now (a .words)) (now (a .memory)) in
-    (start .pre .0, (slot′ .ensures .within, (start .pre .1 .1 .0, rw (evict′ .ensures .1) (sized-evicted (a .setup) t (start .pre .1 .1 .1 .lengths) (slot′ .result)))))
+    (start .pre .0, (slot′ .slot .ensures .within, (start .pre .1 .1 .0, rw (evict′ .evict .ensures .1) (sized-evicted (a .setup) t (start .pre .1 .1 .1 .lengths) (slot′ .slot .result)))))
 
 returns-2 : tie.Need-returns-2
 unfolding obtained obtainBill fetchCycles writeBackCycles
 returns-2 c =
-    let start = c .before .before .before .before .before .before .before .before .before .before .before .before .before .before .before .before .before .before .before .before .before .before .before .before .before .before .before .before .before .before .before .before .before .before .before .before .before .before .before .before .before .before .before in
-    let holds′ = c .before .before .before .before .before .before .before .before .before .before .before .before .before .before .before .before .before .before .before .before .before .before .before .before .before .before .before .before .before .before .before .before .before .before .before .holds in
-    let if1′ = c .before .before .before .before .before .before .before .before .before .before .before .before .before .before .before .before .before .before .before .before .before .before .before .before .before .before .before .before .before .before .before .before .before .before .if1 in
-    let evict′ = c .before .before .before .before .before .before .before .before .before .before .before .before .before .before .before .before .before .before .before .before .before .before .before .before .before .before .before .evict in
-    let slot′ = c .before .before .before .before .before .before .before .before .before .before .before .before .before .before .before .before .before .before .before .before .before .before .before .before .before .before .before .before .before .before .before .before .before .slot in
-    let fetch′ = c .before .before .before .before .before .before .before .before .before .before .before .fetch in
+    let fetch′ = c .before .before .before .before .before .before .before .before .before .before .before in
+    let evict′ = fetch′ .before .before .before .before .before .before .before .before .before .before .before .before .before .before .before .before in
+    let slot′ = evict′ .before .before .before .before .before .before in
+    let if1′ = slot′ .before in
+    let holds′ = if1′ .before in
+    let start = holds′ .before .before .before .before .before .before .before .before in
     let a = start .args in
-    let h = sym (holds′ .ensures (now (a .marks)) (now (a .words)) (now (a .memory))) ∙ if1′ .left in (
-      rw (h, c .fetch-price .ensures, evict′ .ensures .0, slot′ .ensures .value),
-      rw (h, ← (slot′ .ensures .value)) (fetch′ .ensures ∙ ap (λ (t : Tables). fetched (a .setup) t (slot′ .result) (a .block)) (evict′ .ensures .1)),
+    let h = sym (holds′ .holds .ensures (now (a .marks)) (now (a .words)) (now (a .memory))) ∙ if1′ .if1 .left in (
+      rw (h, c .fetch-price .ensures, evict′ .evict .ensures .0, slot′ .slot .ensures .value),
+      rw (h, ← (slot′ .slot .ensures .value)) (fetch′ .fetch .ensures ∙ ap (λ (t : Tables). fetched (a .setup) t (slot′ .slot .result) (a .block)) (evict′ .evict .ensures .1)),
     )
 
 pub obtain-spec : {M : Type 1} → statement M

@@ -1,122 +1,53 @@
--- The block is obtained; then a read supplies its word, and a write is done.
+-- By either arm the access is the request's operation, which names its variable.
 use borrow.Author.Needs.{needs}
-use mathlib.Core.Path.{_∙_}
-use denote.Ref.{now}
-use Rattle.protocol.specs.Board.{slots}
-use Rattle.protocol.specs.Tables.{tables}
-use Rattle.protocol.specs.Requests.{isWrite, newValue, target, value, bill, served}
-use Rattle.protocol.proofs.Board.{block-lt, offset-lt, wordIndex-lt}
-use Rattle.protocol.proofs.Lengths.{sized-obtained}
-use Rattle.engine.specs.Usable.{obtainBill}
+use Prim.Native.Nat.{_<_}
+use mathlib.Core.Path.{_≡_}
+use mathlib.Core.Logic.{⊎-elim}
+use Rattle.protocol.specs.Board.{variables}
+use Rattle.protocol.specs.Requests.{Named, value, bill, served}
+use Rattle.protocol.specs.declared.Setup.{Setup}
+use Rattle.protocol.specs.declared.Variable.{Variable}
+use Rattle.engine.specs.Usable.{operationBy, operationOf}
+use Rattle.engine.specs.declared.Effect.{Effect}
+use Rattle.engine.specs.declared.Effect.the-variants.{Supply, Store}
 use Rattle.engine.proofs.serve.Statement.{statement}
 use Rattle.engine.proofs.serve.Tie as tie
 
-obtain-requires : tie.Need-obtain-requires
-obtain-requires c κs =
-    let start = c .before .before .before .before .before .before .before .before .before .before .before .before .before in
-    let block-of′ = c .before .before .before .before .before .before .block-of in
-    let variable′ = c .before .before .before .before .before .before .before .variable in (
-      start .pre .0,
-      (
-        start .pre .1 .0 .processor,
-        (rw (block-of′ .ensures) (block-lt (start .args .setup) (start .pre .0) (variable′ .result) (rw (variable′ .ensures) (start .pre .1 .0 .variable))), start .pre .1 .1),
-      ),
-    )
+variable-named : (s : Setup) (v : Variable) (e : Effect) → Named s (operationBy v e) → v .0 < variables s
+variable-named s v Supply h = h
+variable-named s v (Store x) h = h
 
-slot-requires : tie.Need-slot-requires
-slot-requires c κs =
-    let start = c .before .before .before .before .before .before .before .before .before .before .before .before .before .before .before .before .before .before .before .before .before .before .before .before .before .before in
-    (start .pre .0, start .pre .1 .0 .processor)
-
-word-of-requires : tie.Need-word-of-requires
-word-of-requires c κs =
-    let start = c .before .before .before .before .before .before .before .before .before .before .before .before .before .before .before .before .before .before .before .before .before .before .before .before .before .before .before .before in
-    let obtain′ = c .before .before .before .before .before .before .before .before .before .before .before .before .before .before .obtain in
-    let offset-of′ = c .before .before .before .before .before .before .before .before .before .before .before .before .before .before .before .before .before .before .before .before .offset-of in
-    let variable′ = c .before .before .before .before .before .before .before .before .before .before .before .before .before .before .before .before .before .before .before .before .before .before .variable in
+serve-access-requires : tie.Need-serve-access-requires
+serve-access-requires c κs =
+    let match′ = c .before .before .before .before .before in
+    let start = match′ .before .before .before .before .before .before in
     let a = start .args in
-    rw (obtain′ .kept .1 .1 .1 .1 .1 .1 .0 ∙ start .pre .1 .1 .lengths .words)
-    (wordIndex-lt (a .setup) (start .pre .0) (c .before .slot .result) (slots (a .setup)) (offset-of′ .result) (c .before .slot .ensures .within)
-    (rw (offset-of′ .ensures) (offset-lt (a .setup) (start .pre .0) (variable′ .result))))
-
-write-requires : tie.Need-write-requires
-write-requires c κs =
-    let start = c .before .before .before .before .before .before .before .before .before .before .before .before .before .before .before .before .before .before .before .before .before .before .before .before .before .before .before .before .before .before .before .before in
-    let block-of′ = c .before .before .before .before .before .before .before .before .before .before .before .before .before .before .before .before .before .before .before .before .before .before .before .before .before .block-of in
-    let variable′ = c .before .before .before .before .before .before .before .before .before .before .before .before .before .before .before .before .before .before .before .before .before .before .before .before .before .before .variable in
-    let offset-of′ = c .before .before .before .before .before .before .before .before .before .before .before .before .before .before .before .before .before .before .before .before .before .before .before .before .offset-of in
-    let obtain′ = c .before .before .before .before .before .before .before .before .before .before .before .before .before .before .before .before .before .before .obtain in
-    let a = start .args in
-    let t = tables (now (a .blocks)) (now (a .counters)) (now (a .marks)) (now (a .words)) (now (a .memory)) in (
-      start .pre .0,
-      (
-        start .pre .1 .0 .processor,
-        (
-          rw (block-of′ .ensures) (block-lt (a .setup) (start .pre .0) (variable′ .result) (rw (variable′ .ensures) (start .pre .1 .0 .variable))),
-          (
-            rw (offset-of′ .ensures) (offset-lt (a .setup) (start .pre .0) (variable′ .result)),
-            rw (obtain′ .ensures .1) (sized-obtained (a .setup) t (start .pre .1 .1 .lengths) (a .request .processor) (block-of′ .result)),
-          ),
-        ),
-      ),
-    )
+    let access = match′ .match .access in
+    let e : a .request .operation ≡ operationOf access = ⊎-elim (λ w. rw (w .3) (w .1 .given .1)) (λ w. rw (w .3) (w .1 .given .1)) (match′ .match .came) in
+    let named : Named (a .setup) (operationOf access) = rw e at (start .pre .1 .0 .operation) in
+    (start .pre .0, (start .pre .1 .0 .processor, (variable-named (a .setup) (access .variable) (access .effect) named, start .pre .1 .1)))
 
 returns : tie.Need-returns
-unfolding value bill served isWrite target obtainBill
+unfolding value bill served
 returns c =
-    let enum-told′ = c .before .before .before .enum-told in
-    let variable′ = c .before .before .before .before .before .before .before .before .before .before .before .before .before .before .before .before .before .before .before .before .before .before .before .variable in
-    let block-of′ = c .before .before .before .before .before .before .before .before .before .before .before .before .before .before .before .before .before .before .before .before .before .before .block-of in
-    let offset-of′ = c .before .before .before .before .before .before .before .before .before .before .before .before .before .before .before .before .before .before .before .before .before .offset-of in
-    let obtain′ = c .before .before .before .before .before .before .before .before .before .before .before .before .before .before .before .obtain in
-    let slot′ = c .before .before .slot in
-    let e = enum-told′ .given .1 in
-    let v = variable′ .ensures in
-    let b = block-of′ .ensures in (
-      rw (← v, ← b, ← (offset-of′ .ensures), ← (obtain′ .ensures .1), ← (slot′ .ensures .value), e) (c .word-of .ensures),
-      rw (← v, ← b, e) (obtain′ .ensures .0),
-      rw (← v, ← b, e) (obtain′ .ensures .1),
-    )
-
-returns-2 : tie.Need-returns-2
-unfolding value bill served isWrite newValue target obtainBill
-returns-2 c =
-    let operation′ = c .before .before .before .before .before .before .before .before .before .before .before .before .before .before .before .before .before .operation in
-    let variable′ = c .before .before .before .before .before .before .before .before .before .before .before .before .before .before .before .before .before .before .before .before .before .before .before .before .before .before .before .before .before .before .before .before .before .before .before .before .before .variable in
-    let block-of′ = c .before .before .before .before .before .before .before .before .before .before .before .before .before .before .before .before .before .before .before .before .before .before .before .before .before .before .before .before .before .before .before .before .before .before .before .before .block-of in
-    let obtain′ = c .before .before .before .before .before .before .before .before .before .before .before .before .before .before .before .before .before .before .before .before .before .before .before .before .before .before .before .before .before .obtain in
-    let write′ = c .before .before .before .before .before .before .before .before .before .before .write in
-    let offset-of′ = c .before .before .before .before .before .before .before .before .before .before .before .before .before .before .before .before .before .before .before .before .before .before .before .before .before .before .before .before .before .before .before .before .before .before .before .offset-of in
-    let e = operation′ .given .1 in
-    let v = variable′ .ensures in
-    let b = block-of′ .ensures in (
-      rw e,
-      rw (← v, ← b, ← (obtain′ .ensures .1), e) (simp (obtain′ .ensures .0, write′ .ensures .0)),
-      rw (← v, ← b, ← (offset-of′ .ensures), ← (obtain′ .ensures .1), e) (write′ .ensures .1),
-    )
+    let serve-access′ = c .before .before .before .before .before .before .before .before .before .before in
+    let match′ = serve-access′ .before .before .before .before .before .before in
+    let start = match′ .before .before .before .before .before .before in
+    let a = start .args in
+    let e : a .request .operation ≡ operationOf (match′ .match .access) =
+    ⊎-elim (λ w. rw (w .3) (w .1 .given .1)) (λ w. rw (w .3) (w .1 .given .1)) (match′ .match .came) in
+    rw e (serve-access′ .serve-access .ensures)
 
 pub serve-spec : {M : Type 1} → statement M
 serve-spec =
     tie.close
     (tie.spec
-    (λ c κs. search needs)
-    (λ c κs. search needs)
-    (λ c κs. search needs)
-    obtain-requires
     (λ c. search needs)
-    slot-requires
-    word-of-requires
     (λ c. search needs)
-    write-requires
+    serve-access-requires
     (λ c. search needs)
     (λ c. search needs)
     (λ c. search needs)
     (λ c. search needs)
     (λ c. search needs)
-    returns
-    (λ c. search needs)
-    (λ c. search needs)
-    (λ c. search needs)
-    (λ c. search needs)
-    (λ c. search needs)
-    returns-2)
+    returns)
