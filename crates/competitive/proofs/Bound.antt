@@ -142,23 +142,23 @@ shared-some s r i j b l d e = other-some (s .processors) i (λ j. keepsAt r (slo
 -- ---- what the engine is charged
 
 -- F for a fetch, W for a write-back
-unfoldable pub obtainedCharge : ℕ → ℕ → Setup → Tables → ℕ → Block → ℕ
-obtainedCharge F W s t i b = cond (holds s t i b) 0 (F + cond (marked t (slot s i b)) W 0)
+unfoldable pub obtainedWeight : ℕ → ℕ → Setup → Tables → ℕ → Block → ℕ
+obtainedWeight F W s t i b = cond (holds s t i b) 0 (F + cond (marked t (slot s i b)) W 0)
 
 -- U for an update
-unfoldable pub writtenCharge : ℕ → Setup → Tables → ℕ → Block → ℕ
-writtenCharge U s t i b = cond (sharing s t i b) U 0
+unfoldable pub writtenWeight : ℕ → Setup → Tables → ℕ → Block → ℕ
+writtenWeight U s t i b = cond (sharing s t i b) U 0
 
-abbrev pub chargeBy : ℕ → ℕ → ℕ → Setup → Tables → ℕ → Operation → ℕ
-chargeBy F W U s t i (Read v) = obtainedCharge F W s t i (blockOf s v)
-chargeBy F W U s t i (Write v x) = obtainedCharge F W s t i (blockOf s v) + writtenCharge U s (obtained s t i (blockOf s v)) i (blockOf s v)
+abbrev pub weightBy : ℕ → ℕ → ℕ → Setup → Tables → ℕ → Operation → ℕ
+weightBy F W U s t i (Read v) = obtainedWeight F W s t i (blockOf s v)
+weightBy F W U s t i (Write v x) = obtainedWeight F W s t i (blockOf s v) + writtenWeight U s (obtained s t i (blockOf s v)) i (blockOf s v)
 
-unfoldable pub charge : ℕ → ℕ → ℕ → Setup → Tables → Request → ℕ
-charge F W U s t q = chargeBy F W U s t (q .processor) (q .operation)
+unfoldable pub weight : ℕ → ℕ → ℕ → Setup → Tables → Request → ℕ
+weight F W U s t q = weightBy F W U s t (q .processor) (q .operation)
 
-abbrev pub charges : ℕ → ℕ → ℕ → Setup → Tables → List Request → ℕ
-charges F W U s t [] = 0
-charges F W U s t (q ∷ qs) = charge F W U s t q + charges F W U s (served s t q) qs
+abbrev pub weights : ℕ → ℕ → ℕ → Setup → Tables → List Request → ℕ
+weights F W U s t [] = 0
+weights F W U s t (q ∷ qs) = weight F W U s t q + weights F W U s (served s t q) qs
 
 -- ---- the potential of the whole
 
@@ -210,8 +210,8 @@ module _ (s : Setup) (ok : Fits s) (F W U : ℕ) (ψ : ℕ → ℕ → ℕ → �
         hk : k < slots s
         hk = slot-lt s ok i b hi
 
-    pub obtained-bound : total ψ s (obtained s t i b) r + obtainedCharge F W s t i b ≤ total ψ s t r
-    unfolding obtained obtainedCharge
+    pub obtained-bound : total ψ s (obtained s t i b) r + obtainedWeight F W s t i b ≤ total ψ s t r
+    unfolding obtained obtainedWeight
     obtained-bound = go (holds s t i b) refl
       where
         k : ℕ
@@ -293,8 +293,8 @@ module _ (s : Setup) (ok : Fits s) (F W U : ℕ) (ψ : ℕ → ℕ → ℕ → �
 
   module _ (t : Tables) (sd : Sound s t) (r : Rival) (i : ℕ) (b : Block) (hi : i < s .processors) (kp : keeps s r i b ≡ true) where
     pub written-bound : (o x u : ℕ) → o < s .words → holds s t i b ≡ true → (shared s r i b ≡ true → 1 ≤ u)
-        → total ψ s (written s t i b o x) r + writtenCharge U s t i b ≤ total ψ s t r + u
-    unfolding written writtenCharge
+        → total ψ s (written s t i b o x) r + writtenWeight U s t i b ≤ total ψ s t r + u
+    unfolding written writtenWeight
     written-bound o x u ho e hu = go (sharing s t i b) refl
       where
         k : ℕ
@@ -314,7 +314,7 @@ module _ (s : Setup) (ok : Fits s) (F W U : ℕ) (ψ : ℕ → ℕ → ℕ → �
 
   -- processor i's operation, completed by the rival too
   servedBy-bound : (t : Tables) (sd : Sound s t) (r : Rival) (i : ℕ) (o : Operation) (a : Bool) → i < s .processors → Named s o → Ready s r i o
-      → total ψ s (servedBy s t i o) r + chargeBy F W U s t i o ≤ total ψ s t r + completionBy s r i o a
+      → total ψ s (servedBy s t i o) r + weightBy F W U s t i o ≤ total ψ s t r + completionBy s r i o a
   servedBy-bound t sd r i (Read v) a hi n kp = omega (arith, obtained-bound t sd r i (blockOf s v) hi kp)
   servedBy-bound t sd r i (Write v x) a hi n kp =
       let b : Block = blockOf s v in
@@ -326,8 +326,8 @@ module _ (s : Setup) (ok : Fits s) (F W U : ℕ) (ψ : ℕ → ℕ → ℕ → �
       )
 
   served-bound : (t : Tables) (sd : Sound s t) (r : Rival) (q : Request) (a : Bool) → Completion s r q
-      → total ψ s (served s t q) r + charge F W U s t q ≤ total ψ s t r + completionCycles s r q a
-  unfolding served charge completionCycles
+      → total ψ s (served s t q) r + weight F W U s t q ≤ total ψ s t r + completionCycles s r q a
+  unfolding served weight completionCycles
   served-bound t sd r q a c = servedBy-bound t sd r (q .processor) (q .operation) a (c .valid .processor) (c .valid .operation) (c .ready)
 
 -- ---- a whole schedule
@@ -372,7 +372,7 @@ module _ (s : Setup) (ok : Fits s) (F W U : ℕ) (ψ : ℕ → ℕ → ℕ → �
   rivalWrittenBack-total t r i b = refl
 
   pub bound : (es : List Entry) (t : Tables) (r : Rival) (qs : List Request) → Sound s t → RivalSized s r → Legal s r qs es
-      → charges F W U s t qs ≤ paidFor (costs s r qs es) + total ψ s t r
+      → weights F W U s t qs ≤ paidFor (costs s r qs es) + total ψ s t r
   bound [] t r [] sd sh l = omega arith
   bound [] t r (q ∷ qs) sd sh l = absurd (omega (arith, l))
   bound (Fetch i b ∷ es) t r qs sd sh l =

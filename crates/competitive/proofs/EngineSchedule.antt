@@ -10,13 +10,15 @@ use lib.Seq.{set-getD, map-set-same, ext-getD}
 use lib.Dec.{ltb, eqb}
 use borrow.Author.Tests.{ltb-true, lt-ltb, eqb-true, eqb-false}
 use Rattle.protocol.specs.Lists.{at, zeros, other}
-use Rattle.protocol.specs.Board.{Fits, inRange, variables, slots, slot, lineOf, blockOf, offsetOf, fetchPrice, writeBackPrice}
+use Rattle.protocol.specs.Refusals.{noRefusal}
+use Rattle.protocol.specs.Board.{Fits, setupRefusal, variables, slots, slot, lineOf, blockOf, offsetOf, fetchPrice, writeBackPrice}
 use Rattle.protocol.specs.Tables.{Tables, tables, fresh, counter, block, mark, holdsAt, holds, sharing, marked}
 use Rattle.protocol.specs.Soundness.{Sound}
 use Rattle.protocol.specs.Rules.{writtenBack, emptied, filled, saved, saveCycles, evicted, owner, released, fetched, obtained, fetchCycles, writeBackCycles, payer, writtenAlone, broadcast, charged, written, updateCycles}
 use Rattle.protocol.specs.Requests.{Named, Valid, AllValid, servedBy, served, billBy, bill}
 use Rattle.protocol.specs.Accounts.{nothing, plus}
-use Rattle.protocol.specs.Runs.{Run, takenRun, takenAll, servedAll, spent}
+use Rattle.protocol.specs.Engines.{Run, takenAll, servedAll, spent}
+use Rattle.protocol.specs.Runs.{engine}
 use Rattle.protocol.specs.Rival.{Rival, rival, noCopies, keepsAt, keeps, shared, unmarked, rivalFetched, rivalWrittenBack, rivalDropped, rivalCompleted, completionCycles, played, left, cost, refusal, moveRefusal, Legal, costs, lastCopies}
 use Rattle.competitive.specs.EngineSchedule.{saving, evicting, obtaining, paying, servingBy, serving, engineSchedule, EngineIsRival}
 use Rattle.protocol.specs.declared.Setup.{Setup}
@@ -29,17 +31,17 @@ use Rattle.protocol.specs.declared.Bill.{Bill}
 use Rattle.protocol.specs.declared.Entry.{Entry}
 use Rattle.protocol.specs.declared.Entry.the-variants.{Fetch, WriteBack, Drop, Complete}
 use Rattle.protocol.proofs.Laws.{Same, same, apart, same?, Under, under, over, under?, Known, sure, not-so, known, choice, at-set-other, at-set-zero}
-use Rattle.protocol.proofs.Board.{block-path, block-number, inRange-fits, row-lt, row-mod, line-lt, slot-lt, slot-inj, processor-lt, offset-lt, block-lt}
+use Rattle.protocol.proofs.Board.{block-path, block-number, setup-fits, row-lt, row-mod, line-lt, slot-lt, slot-inj, processor-lt, offset-lt, block-lt}
 use Rattle.protocol.proofs.Holding.{holdsAt-true, true-holdsAt, holder-slot, payer-below, payer-found, owner-found}
+use Rattle.protocol.proofs.Engines.{all-valid}
 use Rattle.protocol.proofs.Rival.{legal-completion, length-unmarked}
 use Rattle.competitive.proofs.Sound.{sound-writtenBack}
-use Rattle.competitive.proofs.StepSound.{marked-holds, placed, sound-evicted, sound-released, released-unmarked, sound-obtained, obtained-holds, shared-facts, AllValid, sound-served}
+use Rattle.competitive.proofs.StepSound.{marked-holds, placed, sound-evicted, sound-released, released-unmarked, sound-obtained, obtained-holds, shared-facts, sound-served}
 use Rattle.competitive.proofs.Fresh.{sound-fresh}
 use Rattle.competitive.proofs.Bound.{released-counters, released-blocks, evicted-zero}
-use Rattle.competitive.proofs.Claim.{run-valid}
+use Rattle.competitive.proofs.Lawful.{lawful}
 use Rattle.competitive.proofs.Tight.{rival-path}
 use Rattle.competitive.proofs.Priced.{bill-path}
-use Rattle.competitive.proofs.LastValues.{valid-append}
 
 -- ---- the engine's copies as a rival's
 
@@ -395,8 +397,8 @@ serving-leads s ok t sd q qs v = servingBy-leads s ok t sd (q .processor) (q .op
 -- from copies r, where the engine's tables are t
 record Whole (s : Setup) (t : Tables) (r : Rival) (qs : List Request) : Type 0 where
   legal : Legal s r qs (engineSchedule s t qs)
-  pays : costs s r qs (engineSchedule s t qs) ≡ spent s t qs
-  last : lastCopies s r qs (engineSchedule s t qs) ≡ mirrored (servedAll s t qs)
+  pays : costs s r qs (engineSchedule s t qs) ≡ spent (engine s) t qs
+  last : lastCopies s r qs (engineSchedule s t qs) ≡ mirrored (servedAll (engine s) t qs)
 
 whole : (s : Setup) (ok : Fits s) (t : Tables) (sd : Sound s t) (qs : List Request) → AllValid s qs → Whole s t (mirrored t) qs
 whole s ok t sd [] v = record { legal = refl; pays = refl; last = refl }
@@ -419,7 +421,7 @@ engine-is-rival s ok qs v =
       legal = w .legal;
       bill = w .pays;
       copies = record {
-        held = λ k h. ap (λ (r : Rival). at (r .held) k) (w .last) ∙ at-held (servedAll s (fresh s) qs .counters) k;
+        held = λ k h. ap (λ (r : Rival). at (r .held) k) (w .last) ∙ at-held (servedAll (engine s) (fresh s) qs .counters) k;
         blocks = λ k h. ap (λ (r : Rival). at (r .blocks) k) (w .last);
         marks = λ k h. ap (λ (r : Rival). at (r .marks) k) (w .last);
       };
@@ -427,10 +429,6 @@ engine-is-rival s ok qs v =
 
 -- ---- the requests that a list of runs takes
 
-all-valid : (s : Setup) (n : ℕ) (rs : List Run) → AllValid s (takenAll s n rs)
-all-valid s n [] = tt
-all-valid s n (r ∷ rs) =
-    valid-append s (takenRun s n r) (takenAll s (n + length (takenRun s n r)) rs) (run-valid s n r) (all-valid s (n + length (takenRun s n r)) rs)
-
-pub runs-rival : (s : Setup) → inRange s ≡ true → (n : ℕ) (rs : List Run) → EngineIsRival s (takenAll s n rs)
-runs-rival s ranged n rs = engine-is-rival s (inRange-fits s ranged) (takenAll s n rs) (all-valid s n rs)
+pub runs-rival : (s : Setup) → setupRefusal s ≡ noRefusal → (n : ℕ) (rs : List (Run Request)) → EngineIsRival s (takenAll (engine s) n rs)
+runs-rival s accepted n rs =
+    engine-is-rival s (setup-fits s accepted) (takenAll (engine s) n rs) (all-valid s (engine s) (Sound s) (Valid s) (lawful s accepted) n rs)

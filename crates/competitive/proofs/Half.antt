@@ -9,7 +9,8 @@ use Rattle.protocol.specs.Tables.{Tables, fresh, holds, sharing, marked}
 use Rattle.protocol.specs.Rules.{saveCycles, obtained, fetchCycles, writeBackCycles, updateCycles}
 use Rattle.protocol.specs.Requests.{served, billBy, bill}
 use Rattle.protocol.specs.Accounts.{cycles}
-use Rattle.protocol.specs.Runs.{spent}
+use Rattle.protocol.specs.Engines.{spent}
+use Rattle.protocol.specs.Runs.{engine}
 use Rattle.protocol.specs.Rival.{noCopies, Legal, costs}
 use Rattle.protocol.specs.declared.Setup.{Setup}
 use Rattle.protocol.specs.declared.Block.{Block}
@@ -22,7 +23,7 @@ use Rattle.protocol.proofs.Rival.{sized-noCopies}
 use Rattle.competitive.proofs.Sums.{sum-zero}
 use Rattle.competitive.proofs.Fresh.{sound-fresh}
 use Rattle.competitive.proofs.Potential.{Potential, debt, load, fetch-potential, update-potential}
-use Rattle.competitive.proofs.Bound.{obtainedCharge, writtenCharge, chargeBy, charge, charges, total, paidFor, bound}
+use Rattle.competitive.proofs.Bound.{obtainedWeight, writtenWeight, weightBy, weight, weights, total, paidFor, bound}
 
 -- ---- the start: empty caches on both sides
 
@@ -30,75 +31,75 @@ pub total-fresh : (s : Setup) (F W U : ℕ) (ψ : ℕ → ℕ → ℕ → ℕ �
 unfolding total fresh noCopies
 total-fresh s F W U ψ P = sum-zero (slots s) _ (λ k h. rw (at-zeros (slots s) k) (P .nil))
 
--- ---- the charges are the bill's
+-- ---- the weights are the bill's
 
 pick-same : (c : Bool) → _≡_ {A = ℕ} (cond c 0 0) 0
 pick-same true = refl
 pick-same false = refl
 
 module _ (s : Setup) (t : Tables) (i : ℕ) (b : Block) where
-  obtained-fetch : obtainedCharge (fetchPrice s) 0 s t i b ≡ fetchCycles s t i b
-  unfolding obtainedCharge fetchCycles
+  obtained-fetch : obtainedWeight (fetchPrice s) 0 s t i b ≡ fetchCycles s t i b
+  unfolding obtainedWeight fetchCycles
   obtained-fetch = both _≡_ (holds s t i b) (λ e. refl) (λ e. rw (pick-same (marked t (slot s i b))) (omega arith))
 
-  obtained-back : obtainedCharge 0 (writeBackPrice s) s t i b ≡ writeBackCycles s t i b
-  unfolding obtainedCharge writeBackCycles saveCycles
+  obtained-back : obtainedWeight 0 (writeBackPrice s) s t i b ≡ writeBackCycles s t i b
+  unfolding obtainedWeight writeBackCycles saveCycles
   obtained-back = both _≡_ (holds s t i b) (λ e. refl) (λ e. omega arith)
 
-  written-nothing : writtenCharge 0 s t i b ≡ 0
-  unfolding writtenCharge
+  written-nothing : writtenWeight 0 s t i b ≡ 0
+  unfolding writtenWeight
   written-nothing = pick-same (sharing s t i b)
 
-  written-update : writtenCharge 1 s t i b ≡ updateCycles s t i b
-  unfolding writtenCharge updateCycles
+  written-update : writtenWeight 1 s t i b ≡ updateCycles s t i b
+  unfolding writtenWeight updateCycles
   written-update = refl
 
-fetch-charge : (s : Setup) (t : Tables) (i : ℕ) (o : Operation) → chargeBy (fetchPrice s) 0 0 s t i o ≡ billBy s t i o .fetch
-fetch-charge s t i (Read v) = obtained-fetch s t i (blockOf s v)
-fetch-charge s t i (Write v x) =
+fetch-weight : (s : Setup) (t : Tables) (i : ℕ) (o : Operation) → weightBy (fetchPrice s) 0 0 s t i o ≡ billBy s t i o .fetch
+fetch-weight s t i (Read v) = obtained-fetch s t i (blockOf s v)
+fetch-weight s t i (Write v x) =
     let b : Block = blockOf s v in
     omega (arith, obtained-fetch s t i b, written-nothing s (obtained s t i b) i b)
 
-update-charge : (s : Setup) (t : Tables) (i : ℕ) (o : Operation)
-    → chargeBy 0 (writeBackPrice s) 1 s t i o ≡ billBy s t i o .«write_back» + billBy s t i o .update
-update-charge s t i (Read v) = omega (arith, obtained-back s t i (blockOf s v))
-update-charge s t i (Write v x) =
+update-weight : (s : Setup) (t : Tables) (i : ℕ) (o : Operation)
+    → weightBy 0 (writeBackPrice s) 1 s t i o ≡ billBy s t i o .«write_back» + billBy s t i o .update
+update-weight s t i (Read v) = omega (arith, obtained-back s t i (blockOf s v))
+update-weight s t i (Write v x) =
     let b : Block = blockOf s v in
     omega (arith, obtained-back s t i b, written-update s (obtained s t i b) i b)
 
-fetch-charges : (s : Setup) (t : Tables) (qs : List Request) → charges (fetchPrice s) 0 0 s t qs ≡ spent s t qs .fetch
-unfolding charge bill
-fetch-charges s t [] = refl
-fetch-charges s t (q ∷ qs) = omega (arith, fetch-charge s t (q .processor) (q .operation), fetch-charges s (served s t q) qs)
+fetch-weights : (s : Setup) (t : Tables) (qs : List Request) → weights (fetchPrice s) 0 0 s t qs ≡ spent (engine s) t qs .fetch
+unfolding weight bill
+fetch-weights s t [] = refl
+fetch-weights s t (q ∷ qs) = omega (arith, fetch-weight s t (q .processor) (q .operation), fetch-weights s (served s t q) qs)
 
-update-charges : (s : Setup) (t : Tables) (qs : List Request) → charges 0 (writeBackPrice s) 1 s t qs ≡ spent s t qs .«write_back» + spent s t qs .update
-unfolding charge bill
-update-charges s t [] = omega arith
-update-charges s t (q ∷ qs) = omega (arith, update-charge s t (q .processor) (q .operation), update-charges s (served s t q) qs)
+update-weights : (s : Setup) (t : Tables) (qs : List Request) → weights 0 (writeBackPrice s) 1 s t qs ≡ spent (engine s) t qs .«write_back» + spent (engine s) t qs .update
+unfolding weight bill
+update-weights s t [] = omega arith
+update-weights s t (q ∷ qs) = omega (arith, update-weight s t (q .processor) (q .operation), update-weights s (served s t q) qs)
 
 -- ---- theorem 4.2 and the factor of two
 
 module _ (s : Setup) (ok : Fits s) (qs : List Request) (es : List Entry) (legal : Legal s (noCopies s) qs es) where
-  pub fetch-half : spent s (fresh s) qs .fetch ≤ paidFor (costs s (noCopies s) qs es)
+  pub fetch-half : spent (engine s) (fresh s) qs .fetch ≤ paidFor (costs s (noCopies s) qs es)
   fetch-half =
       let f = fetchPrice s in
       let P = fetch-potential f in
       omega (
         arith,
-        fetch-charges s (fresh s) qs,
+        fetch-weights s (fresh s) qs,
         total-fresh s f 0 0 (debt f) P,
         bound s ok f 0 0 (debt f) P es (fresh s) (noCopies s) qs (sound-fresh s) (sized-noCopies s) legal,
       )
 
-  pub update-half : spent s (fresh s) qs .«write_back» + spent s (fresh s) qs .update ≤ paidFor (costs s (noCopies s) qs es)
+  pub update-half : spent (engine s) (fresh s) qs .«write_back» + spent (engine s) (fresh s) qs .update ≤ paidFor (costs s (noCopies s) qs es)
   update-half =
       let P = update-potential (fetchPrice s) (writeBackPrice s) (ok .write-back-le-fetch) in
       omega (
         arith,
-        update-charges s (fresh s) qs,
+        update-weights s (fresh s) qs,
         total-fresh s 0 (writeBackPrice s) 1 (load (fetchPrice s)) P,
         bound s ok 0 (writeBackPrice s) 1 (load (fetchPrice s)) P es (fresh s) (noCopies s) qs (sound-fresh s) (sized-noCopies s) legal,
       )
 
-  pub half : cycles (spent s (fresh s) qs) ≤ 2 * cycles (costs s (noCopies s) qs es)
+  pub half : cycles (spent (engine s) (fresh s) qs) ≤ 2 * cycles (costs s (noCopies s) qs es)
   half = omega (arith, fetch-half, update-half)

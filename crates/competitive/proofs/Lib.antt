@@ -6,7 +6,7 @@ pub mod Fresh
 pub mod Bound
 pub mod Half
 pub mod Values
-pub mod Possible
+pub mod Lawful
 pub mod Claim
 pub mod Tight
 pub mod Priced

@@ -12,12 +12,14 @@ use lib.Dec.{ltb, eqb}
 use borrow.Author.Tests.{lt-ltb, eqb-true, eq-eqb}
 use Rattle.protocol.specs.Lists.{at, part, zeros, tail, other}
 use Rattle.protocol.specs.Refusals.{noRefusal}
-use Rattle.protocol.specs.Board.{inRange, Fits, variables, slots, slot, wordIndex, blockOf, offsetOf, fetchPrice}
+use Rattle.protocol.specs.Board.{setupRefusal, Fits, variables, slots, slot, wordIndex, blockOf, offsetOf, fetchPrice}
 use Rattle.protocol.specs.Tables.{Tables, tables, fresh, holdsAt, holds, sharing, marked, memoryWords}
+use Rattle.protocol.specs.Soundness.{Sound}
 use Rattle.protocol.specs.Rules.{writtenBack, emptied, filled, saved, saveCycles, evicted, owner, released, fetched, obtained, fetchCycles, writeBackCycles, payer, updatedCopies, broadcast, charged, written, updateCycles}
 use Rattle.protocol.specs.Requests.{Valid, AllValid, served, bill, requestRefusal, requestLimit}
 use Rattle.protocol.specs.Accounts.{cycles, entered, freshAccount}
-use Rattle.protocol.specs.Runs.{walk, run, runRefusal, takenFrom, takenRun, spent}
+use Rattle.protocol.specs.Engines.{runFrom, run, takenFrom, takenRun, spent}
+use Rattle.protocol.specs.Runs.{runRefusal, engine}
 use Rattle.protocol.specs.Rival.{Rival, rival, noCopies, keepsAt, keeps, shared, unmarked, rivalFetched, rivalDropped, rivalCompleted, completionCycles, moveRefusal, completionRefusal, Legal, costs}
 use Rattle.competitive.specs.Claims.{TightList}
 use Rattle.protocol.specs.declared.Setup.{Setup}
@@ -29,16 +31,15 @@ use Rattle.protocol.specs.declared.Account.{Account}
 use Rattle.protocol.specs.declared.Entry.{Entry}
 use Rattle.protocol.specs.declared.Entry.the-variants.{Fetch, Drop, Complete}
 use Rattle.protocol.proofs.Laws.{Same, same, apart, same?, Under, under, over, under?, choice, other-found, at-set-same, at-set-other, at-set-zero, at-zeros}
-use Rattle.protocol.proofs.Board.{inRange-fits, block-path, slot-lt, slot-inj}
+use Rattle.protocol.proofs.Board.{setup-fits, block-path, slot-lt, slot-inj}
 use Rattle.protocol.proofs.Holding.{holdsAt-true, true-holdsAt, sharing-some, payer-found, owner-found}
 use Rattle.protocol.proofs.Checked.{sound-passes, sized-passes}
 use Rattle.protocol.proofs.Requests.{variable-passes, named-passes}
 use Rattle.protocol.proofs.Accounts.{is-possible}
-use Rattle.competitive.proofs.StepSound.{AllValid}
+use Rattle.protocol.proofs.Engines.{Left, run-left}
 use Rattle.competitive.proofs.Fresh.{sound-fresh}
 use Rattle.competitive.proofs.Bound.{keepsAt-true, true-keepsAt}
-use Rattle.competitive.proofs.Possible.{fresh-possible}
-use Rattle.competitive.proofs.Claim.{Left, run-left}
+use Rattle.competitive.proofs.Lawful.{fresh-possible, lawful}
 
 -- ---- the lists
 
@@ -273,22 +274,22 @@ module _ (s : Setup) (ok : Fits s) (two : 2 ≤ s .processors) where
   -- what the engine spends
 
   writes-spent : (n m : ℕ) (qs : List Request)
-      → cycles (spent s (zeroed s (pair (n + m))) (replicate n write0 ++ qs)) ≡ n + cycles (spent s (zeroed s (pair m)) qs)
+      → cycles (spent (engine s) (zeroed s (pair (n + m))) (replicate n write0 ++ qs)) ≡ n + cycles (spent (engine s) (zeroed s (pair m)) qs)
   writes-spent zero m qs = let e : 0 + m ≡ m = omega arith in rw e (omega arith)
   writes-spent (suc n) m qs =
       let e : suc n + m - 1 ≡ n + m = omega arith in
       rw (write-bill (suc n + m) (omega arith), write-served (suc n + m) (omega arith), e) (omega (arith, writes-spent n m qs))
 
-  rounds-spent : (k : ℕ) → cycles (spent s (zeroed s (pair (fetchPrice s))) (rounds (fetchPrice s) k)) ≡ 2 * (fetchPrice s * k)
+  rounds-spent : (k : ℕ) → cycles (spent (engine s) (zeroed s (pair (fetchPrice s))) (rounds (fetchPrice s) k)) ≡ 2 * (fetchPrice s * k)
   rounds-spent zero = omega arith
   rounds-spent (suc k) =
       let f : ℕ = fetchPrice s in
       let e : f ≡ f + 0 = omega arith in
-      let g : cycles (spent s (zeroed s (pair 0)) (readBy 1 ∷ rounds f k)) ≡ f + 2 * (f * k) =
+      let g : cycles (spent (engine s) (zeroed s (pair 0)) (readBy 1 ∷ rounds f k)) ≡ f + 2 * (f * k) =
       rw (read-bill s (pair 0) 1 (at-both-1 (fetchPrice s) 0), reread-served) (omega (arith, rounds-spent k)) in
-      ap (λ x. cycles (spent s (zeroed s (pair x)) (rounds f (suc k)))) e ∙ writes-spent f 0 (readBy 1 ∷ rounds f k) ∙ omega (arith, g, mul-suc f k)
+      ap (λ x. cycles (spent (engine s) (zeroed s (pair x)) (rounds f (suc k)))) e ∙ writes-spent f 0 (readBy 1 ∷ rounds f k) ∙ omega (arith, g, mul-suc f k)
 
-  pub tight-spent : (k : ℕ) → cycles (spent s (fresh s) (tight s k)) ≡ 2 * fetchPrice s + 2 * (fetchPrice s * k)
+  pub tight-spent : (k : ℕ) → cycles (spent (engine s) (fresh s) (tight s k)) ≡ 2 * fetchPrice s + 2 * (fetchPrice s * k)
   unfolding tight fresh
   tight-spent k =
       let e1 = at-only-1 (fetchPrice s) in
@@ -464,14 +465,14 @@ valid-refusal s n q v l =
     rw (lt-ltb (q .processor) (s .processors) (v .processor), lt-ltb n requestLimit l) (named-passes s (q .operation) noRefusal (v .operation))
 
 -- nothing is refused
-pub walk-whole : (s : Setup) (t : Tables) (a : Account) (qs : List Request) (vs : List ℕ) → AllValid s qs → a .requests + length qs ≤ requestLimit
-    → walk s t a qs vs .answer .refusal ≡ noRefusal
-walk-whole s t a [] vs v l = refl
-walk-whole s t a (q ∷ qs) vs v l =
+pub runFrom-whole : (s : Setup) (t : Tables) (a : Account) (qs : List Request) (vs : List ℕ) → AllValid s qs → a .requests + length qs ≤ requestLimit
+    → runFrom (engine s) t a qs vs .answer .refusal ≡ noRefusal
+runFrom-whole s t a [] vs v l = refl
+runFrom-whole s t a (q ∷ qs) vs v l =
     let h : a .requests < requestLimit = omega arith in
-    rw (valid-refusal s (a .requests) q (v .0) h) (walk-whole s (served s t q) (entered a 1 (bill s t q)) qs (tail vs) (v .1) (omega arith))
+    rw (valid-refusal s (a .requests) q (v .0) h) (runFrom-whole s (served s t q) (entered a 1 (bill s t q)) qs (tail vs) (v .1) (omega arith))
 
-pub taken-whole : (s : Setup) (n : ℕ) (qs : List Request) → AllValid s qs → n + length qs ≤ requestLimit → takenFrom s n qs ≡ qs
+pub taken-whole : (s : Setup) (n : ℕ) (qs : List Request) → AllValid s qs → n + length qs ≤ requestLimit → takenFrom (engine s) n qs ≡ qs
 taken-whole s n [] v l = refl
 taken-whole s n (q ∷ qs) v l =
     let h : n < requestLimit = omega arith in
@@ -510,28 +511,28 @@ length-tight s k = omega (arith, length-rounds (fetchPrice s) k)
 
 -- ---- the list and its schedule, for the claim
 
-module _ (s : Setup) (ranged : inRange s ≡ true) (enough : 2 ≤ s .processors) (k : ℕ) (few : k * (fetchPrice s + 1) + 2 ≤ requestLimit) where
+module _ (s : Setup) (accepted : setupRefusal s ≡ noRefusal) (enough : 2 ≤ s .processors) (k : ℕ) (few : k * (fetchPrice s + 1) + 2 ≤ requestLimit) where
   ok : Fits s
-  ok = inRange-fits s ranged
+  ok = setup-fits s accepted
 
-  run-whole : (vs : List ℕ) → length vs ≡ length (tight s k) → run s (fresh s) freshAccount (tight s k) vs .answer .refusal ≡ noRefusal
+  run-whole : (vs : List ℕ) → length vs ≡ length (tight s k) → run (engine s) (fresh s) freshAccount (tight s k) vs .answer .refusal ≡ noRefusal
   unfolding run runRefusal
   run-whole vs e =
       rw (
-        ranged,
+        accepted,
         sized-passes s (fresh s) (sound-fresh s .lengths),
         sound-passes s ok (fresh s) (sound-fresh s),
         is-possible s freshAccount (fresh-possible s),
         eq-eqb (length vs) (length (tight s k)) e,
       )
-      (walk-whole s (fresh s) freshAccount (tight s k) vs (valid-tight s ok enough k) (omega (arith, length-tight s k)))
+      (runFrom-whole s (fresh s) freshAccount (tight s k) vs (valid-tight s ok enough k) (omega (arith, length-tight s k)))
 
-  takes : (vs : List ℕ) → length vs ≡ length (tight s k) → takenRun s 0 (record { requests = tight s k; values = vs }) ≡ tight s k
+  takes : (vs : List ℕ) → length vs ≡ length (tight s k) → takenRun (engine s) 0 (record { requests = tight s k; values = vs }) ≡ tight s k
   unfolding takenRun
   takes vs e = rw (eq-eqb (length vs) (length (tight s k)) e) (taken-whole s 0 (tight s k) (valid-tight s ok enough k) (omega (arith, length-tight s k)))
 
-  leaves : (vs : List ℕ) → length vs ≡ length (tight s k) → Left s (fresh s) freshAccount (tight s k) (run s (fresh s) freshAccount (tight s k) vs)
-  leaves vs e = rw (takes vs e) at (run-left s ranged (fresh s) freshAccount (record { requests = tight s k; values = vs }) (sound-fresh s) (fresh-possible s))
+  leaves : (vs : List ℕ) → length vs ≡ length (tight s k) → Left (engine s) (fresh s) freshAccount (tight s k) (run (engine s) (fresh s) freshAccount (tight s k) vs)
+  leaves vs e = rw (takes vs e) at (run-left s (engine s) (Sound s) (Valid s) (lawful s accepted) (fresh s) freshAccount (record { requests = tight s k; values = vs }) (sound-fresh s) (fresh-possible s))
 
   pub tight-list : TightList s k
   tight-list = record {

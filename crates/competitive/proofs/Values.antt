@@ -14,8 +14,9 @@ use Rattle.protocol.specs.Tables.{Tables, fresh, counter, block, mark, word, me
 use Rattle.protocol.specs.Soundness.{Sound}
 use Rattle.protocol.specs.Rules.{writtenBack, emptied, filled, saved, evicted, owner, released, fetched, obtained, payer, writtenAlone, broadcast, charged, written}
 use Rattle.protocol.specs.Requests.{Named, Valid, AllValid, servedBy, served, valueBy}
-use Rattle.protocol.specs.Runs.{servedAll}
-use Rattle.competitive.specs.Claims.{newer, lastWritten, expectedValue}
+use Rattle.protocol.specs.Engines.{servedAll}
+use Rattle.protocol.specs.Runs.{engine}
+use Rattle.competitive.specs.Claims.{newer, lastWritten, expectedBy}
 use Rattle.protocol.specs.declared.Setup.{Setup}
 use Rattle.protocol.specs.declared.Variable.{Variable}
 use Rattle.protocol.specs.declared.Block.{Block}
@@ -27,7 +28,7 @@ use Rattle.protocol.proofs.Board.{block-path, block-number, variable-path, Same
 use Rattle.protocol.proofs.Holding.{holder-slot, owner-found}
 use Rattle.protocol.proofs.Lengths.{counter-stored, block-stored, mark-stored}
 use Rattle.competitive.proofs.Sound.{writtenBack-memory-same, writtenBack-memory-other, emptied-word-other, filled-word-same, filled-word-other, broadcast-word-out, broadcast-word-in, broadcast-memory-same, broadcast-memory-other}
-use Rattle.competitive.proofs.StepSound.{sound-saved, sound-evicted, sound-released, released-unmarked, sound-obtained, obtained-holds, alone-slots, shared-facts, AllValid, sound-served}
+use Rattle.competitive.proofs.StepSound.{sound-saved, sound-evicted, sound-released, released-unmarked, sound-obtained, obtained-holds, alone-slots, shared-facts, sound-served}
 use Rattle.competitive.proofs.Fresh.{sound-fresh}
 use Rattle.competitive.proofs.Bound.{released-counters, evicted-zero}
 
@@ -304,7 +305,7 @@ stores-served s ok t sd q va v x has = stores-servedBy s ok t sd (q .processor) 
 -- ---- a list of requests
 
 pub stores-list : (s : Setup) (ok : Fits s) (t : Tables) (sd : Sound s t) (qs : List Request) → AllValid s qs → (v : Variable) (x : ℕ) → Stores s t v x
-    → Sound s (servedAll s t qs) × Stores s (servedAll s t qs) v (lastWritten qs v x)
+    → Sound s (servedAll (engine s) t qs) × Stores s (servedAll (engine s) t qs) v (lastWritten qs v x)
 stores-list s ok t sd [] va v x h = (sd, h)
 stores-list s ok t sd (q ∷ qs) va v x h =
     stores-list s ok (served s t q) (sound-served s ok t sd q (va .0)) qs (va .1) v (newer (q .operation) v x) (stores-served s ok t sd q (va .0) v x h)
@@ -318,8 +319,8 @@ stores-fresh s v = record {
 
 -- after any requests from fresh tables a read supplies the last value written to its variable, 0 if none was
 pub last-value : (s : Setup) (ok : Fits s) (ps : List Request) (i : ℕ) (o : Operation) → AllValid s ps → i < s .processors → Named s o
-    → valueBy s (servedAll s (fresh s) ps) i o ≡ expectedValue ps o
+    → valueBy s (servedAll (engine s) (fresh s) ps) i o ≡ expectedBy ps o
 last-value s ok ps i (Read v) va hi n =
     let h = stores-list s ok (fresh s) (sound-fresh s) ps va v 0 (stores-fresh s v) in
-    read-value s ok (servedAll s (fresh s) ps) (h .0) i hi v (lastWritten ps v 0) n (h .1)
+    read-value s ok (servedAll (engine s) (fresh s) ps) (h .0) i hi v (lastWritten ps v 0) n (h .1)
 last-value s ok ps i (Write v x) va hi n = refl

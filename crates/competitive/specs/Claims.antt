@@ -1,18 +1,17 @@
--- What the demands say of whole lists of runs and of whole schedules. proofs/Demands proves it of every setup that 1 lets through.
+-- What the demands say of whole lists of runs and of whole schedules. proofs/Demands proves it of every setup that is not refused.
 use Prim.Native.Nat.{ℕ, _+_, _*_, _≤_}
 use mathlib.Core.Path.{_≡_}
-use mathlib.Core.Logic.{_≢_}
 use mathlib.Core.Bool.{true, cond}
-use mathlib.Core.List.{List, [], _∷_, _++_}
+use mathlib.Core.List.{List, [], _∷_}
 use lib.ListN.{length}
 use lib.Dec.{eqb}
-use Rattle.protocol.specs.Lists.{tail}
-use Rattle.protocol.specs.Refusals.{noRefusal, unsoundTables, impossibleAccount}
+use Rattle.protocol.specs.Refusals.{noRefusal}
 use Rattle.protocol.specs.Board.{fetchPrice}
 use Rattle.protocol.specs.Tables.{fresh}
-use Rattle.protocol.specs.Requests.{requestRefusal, requestLimit}
+use Rattle.protocol.specs.Requests.{requestLimit}
 use Rattle.protocol.specs.Accounts.{cycles, freshAccount, cyclesOf, possible}
-use Rattle.protocol.specs.Runs.{Outcome, run, Run, State, outcomes, runs, takenRun, takenAll, spent}
+use Rattle.protocol.specs.Engines.{run, Run, outcomes, runs, takenAll, spent, expectedAll, valuesOf, Never20Or21}
+use Rattle.protocol.specs.Runs.{engine, opening}
 use Rattle.protocol.specs.Rival.{Rival, noCopies, Legal, costs, lastCopies}
 use Rattle.protocol.specs.Pricer.{priceRefusal, price, priceTables}
 use Rattle.competitive.specs.EngineSchedule.{EngineIsRival}
@@ -25,21 +24,17 @@ use Rattle.protocol.specs.declared.Account.{Account}
 use Rattle.protocol.specs.declared.Entry.{Entry}
 use Rattle.protocol.specs.declared.PriceAnswer.the-variants.{Accepted, Refused}
 
--- fresh tables, and the account that the first run meets
-abbrev pub opening : Setup → Account → State
-opening s a = record { tables = fresh s; account = a }
-
 -- ---- demand 3
 
 -- a list of runs from fresh tables and account a
-pub record Claim (s : Setup) (a : Account) (rs : List Run) : Type 0 where
+pub record Claim (s : Setup) (a : Account) (rs : List (Run Request)) : Type 0 where
   -- "the account's three cycle counts together grow by exactly that sum": what the rules charge for the requests taken, in order from fresh tables
-  pub grows : cyclesOf (runs s (opening s a) rs .account) ≡ cyclesOf a + cycles (spent s (fresh s) (takenAll s (a .requests) rs))
+  pub grows : cyclesOf (runs (engine s) (opening s a) rs .account) ≡ cyclesOf a + cycles (spent (engine s) (fresh s) (takenAll (engine s) (a .requests) rs))
   -- the requests in it grow by the number taken
-  pub counts : runs s (opening s a) rs .account .requests ≡ a .requests + length (takenAll s (a .requests) rs)
+  pub counts : runs (engine s) (opening s a) rs .account .requests ≡ a .requests + length (takenAll (engine s) (a .requests) rs)
   -- "Twice the cost of every legal schedule is at least that sum."
-  pub halves : (es : List Entry) → Legal s (noCopies s) (takenAll s (a .requests) rs) es
-      → cycles (spent s (fresh s) (takenAll s (a .requests) rs)) ≤ 2 * cycles (costs s (noCopies s) (takenAll s (a .requests) rs) es)
+  pub halves : (es : List Entry) → Legal s (noCopies s) (takenAll (engine s) (a .requests) rs) es
+      → cycles (spent (engine s) (fresh s) (takenAll (engine s) (a .requests) rs)) ≤ 2 * cycles (costs s (noCopies s) (takenAll (engine s) (a .requests) rs) es)
 
 -- how near to 2 the factor comes: a list of k × (p + 1) + 2 requests and a schedule for it, which cost 2p + 2pk and 2p + pk
 pub record TightList (s : Setup) (k : ℕ) : Type 0 where
@@ -47,16 +42,16 @@ pub record TightList (s : Setup) (k : ℕ) : Type 0 where
   pub schedule : List Entry
   pub many : length requests ≡ k * (fetchPrice s + 1) + 2
   -- one run from fresh tables and a fresh account takes it whole, at exactly 2p + 2pk
-  pub whole : (vs : List ℕ) → length vs ≡ length requests → run s (fresh s) freshAccount requests vs .answer .refusal ≡ noRefusal
-  pub count : (vs : List ℕ) → length vs ≡ length requests → run s (fresh s) freshAccount requests vs .answer .taken ≡ length requests
+  pub whole : (vs : List ℕ) → length vs ≡ length requests → run (engine s) (fresh s) freshAccount requests vs .answer .refusal ≡ noRefusal
+  pub count : (vs : List ℕ) → length vs ≡ length requests → run (engine s) (fresh s) freshAccount requests vs .answer .taken ≡ length requests
   pub spends : (vs : List ℕ) → length vs ≡ length requests
-      → cyclesOf (run s (fresh s) freshAccount requests vs .account) ≡ 2 * fetchPrice s + 2 * (fetchPrice s * k)
+      → cyclesOf (run (engine s) (fresh s) freshAccount requests vs .account) ≡ 2 * fetchPrice s + 2 * (fetchPrice s * k)
   -- the schedule is legal for it, at exactly 2p + pk
   pub legal : Legal s (noCopies s) requests schedule
   pub pays : cycles (costs s (noCopies s) requests schedule) ≡ 2 * fetchPrice s + fetchPrice s * k
 
 pub record Demand3 (s : Setup) : Type 0 where
-  pub bounded : (a : Account) → possible s a ≡ true → (rs : List Run) → Claim s a rs
+  pub bounded : (a : Account) → possible s a ≡ true → (rs : List (Run Request)) → Claim s a rs
   pub tight : 2 ≤ s .processors → (k : ℕ) → k * (fetchPrice s + 1) + 2 ≤ requestLimit → TightList s k
 
 -- ---- demand 2: "From fresh tables a read supplies the last value written, or 0." No cache is spoken of
@@ -72,38 +67,16 @@ lastWritten [] v x = x
 lastWritten (q ∷ qs) v x = lastWritten qs v (newer (q .operation) v x)
 
 -- what an operation supplies or writes, where ps were taken before it
-abbrev pub expectedValue : List Request → Operation → ℕ
-expectedValue ps (Read v) = lastWritten ps v 0
-expectedValue ps (Write v x) = x
+abbrev pub expectedBy : List Request → Operation → ℕ
+expectedBy ps (Read v) = lastWritten ps v 0
+expectedBy ps (Write v x) = x
 
--- the values of one list of requests, where n requests count and ps were taken before; from a refused one on as they were lent
-abbrev pub expectedFrom : Setup → ℕ → List Request → List Request → List ℕ → List ℕ
-expectedFrom s n ps [] vs = vs
-expectedFrom s n ps (q ∷ qs) vs =
-    cond (eqb (requestRefusal s n q) noRefusal) (expectedValue ps (q .operation) ∷ expectedFrom s (n + 1) (ps ++ q ∷ []) qs (tail vs)) vs
-
--- of a run: as lent if 2 refuses it
-unfoldable pub expectedRun : Setup → ℕ → List Request → Run → List ℕ
-expectedRun s n ps r = cond (eqb (length (r .values)) (length (r .requests))) (expectedFrom s n ps (r .requests) (r .values)) (r .values)
-
--- of each run of a list
-abbrev pub expectedAll : Setup → ℕ → List Request → List Run → List (List ℕ)
-expectedAll s n ps [] = []
-expectedAll s n ps (r ∷ rs) = expectedRun s n ps r ∷ expectedAll s (n + length (takenRun s n r)) (ps ++ takenRun s n r) rs
-
--- the values that outcomes leave
-abbrev pub valuesOf : List Outcome → List (List ℕ)
-valuesOf [] = []
-valuesOf (o ∷ os) = o .values ∷ valuesOf os
-
--- none of the outcomes is refused by 20 or 21
-abbrev pub Never20Or21 : List Outcome → Type 0
-Never20Or21 [] = Unit {0}
-Never20Or21 (o ∷ os) = (o .answer .refusal ≢ unsoundTables) × (o .answer .refusal ≢ impossibleAccount) × Never20Or21 os
+abbrev pub expectedValue : List Request → Request → ℕ
+expectedValue ps q = expectedBy ps (q .operation)
 
 pub record LastValues (s : Setup) : Type 0 where
-  pub values : (a : Account) → possible s a ≡ true → (rs : List Run) → valuesOf (outcomes s (opening s a) rs) ≡ expectedAll s (a .requests) [] rs
-  pub never : (a : Account) → possible s a ≡ true → (rs : List Run) → Never20Or21 (outcomes s (opening s a) rs)
+  pub values : (a : Account) → possible s a ≡ true → (rs : List (Run Request)) → valuesOf (outcomes (engine s) (opening s a) rs) ≡ expectedAll (engine s) expectedValue (a .requests) [] rs
+  pub never : (a : Account) → possible s a ≡ true → (rs : List (Run Request)) → Never20Or21 (outcomes (engine s) (opening s a) rs)
 
 -- ---- demand 2: "A rival schedule that 1, 2 and 5 let through is accepted if and only if it is legal, at its true cost."
 
@@ -120,4 +93,4 @@ pub record Demands (s : Setup) : Type 0 where
   pub priced-right : (lent : Rival) (qs : List Request) (es : List Entry) → priceRefusal s lent (length es) (length qs) ≡ noRefusal → PricedRight s lent qs es
   pub demand3 : Demand3 s
   -- the engine's own actions are a legal schedule for the requests that a list of runs takes
-  pub engine-is-rival : (a : Account) → possible s a ≡ true → (rs : List Run) → EngineIsRival s (takenAll s (a .requests) rs)
+  pub engine-is-rival : (a : Account) → possible s a ≡ true → (rs : List (Run Request)) → EngineIsRival s (takenAll (engine s) (a .requests) rs)

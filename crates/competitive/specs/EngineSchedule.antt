@@ -9,7 +9,8 @@ use Rattle.protocol.specs.Board.{slots, slot, blockOf}
 use Rattle.protocol.specs.Tables.{Tables, fresh, counter, block, mark, holds, sharing, marked}
 use Rattle.protocol.specs.Rules.{obtained, payer}
 use Rattle.protocol.specs.Requests.{served}
-use Rattle.protocol.specs.Runs.{servedAll, spent}
+use Rattle.protocol.specs.Engines.{servedAll, spent}
+use Rattle.protocol.specs.Runs.{engine}
 use Rattle.protocol.specs.Rival.{Rival, noCopies, Legal, costs, lastCopies}
 use Rattle.protocol.specs.declared.Setup.{Setup}
 use Rattle.protocol.specs.declared.Block.{Block}
@@ -69,6 +70,6 @@ pub record EngineIsRival (s : Setup) (qs : List Request) : Type 0 where
   -- its actions are a legal schedule
   pub legal : Legal s (noCopies s) qs (engineSchedule s (fresh s) qs)
   -- which costs what the rules charge the engine, kind by kind
-  pub bill : costs s (noCopies s) qs (engineSchedule s (fresh s) qs) ≡ spent s (fresh s) qs
+  pub bill : costs s (noCopies s) qs (engineSchedule s (fresh s) qs) ≡ spent (engine s) (fresh s) qs
   -- and leaves the rival with the engine's copies
-  pub copies : SameCopies s (servedAll s (fresh s) qs) (lastCopies s (noCopies s) qs (engineSchedule s (fresh s) qs))
+  pub copies : SameCopies s (servedAll (engine s) (fresh s) qs) (lastCopies s (noCopies s) qs (engineSchedule s (fresh s) qs))

@@ -141,7 +141,7 @@ module _ {T Q : Type 0} (s : Setup) (E : Engine T Q) (Good : T → Type 0) (Vali
 
   -- ---- what a run leaves
 
-  run-left : (t : T) (a : Account) (r : Run Q) → Good t → Possible s a
+  pub run-left : (t : T) (a : Account) (r : Run Q) → Good t → Possible s a
       → Left E t a (takenRun E (a .requests) r) (run E t a (r .requests) (r .values))
   unfolding run takenRun
   run-left t a r g p =
