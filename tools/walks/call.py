@@ -6,17 +6,18 @@ class Callee:
     """A function that takes the buffers, all by & (mode 'shr') or all by &mut (mode 'mut') at one lifetime, and plain data.
 
     here: the caller's crate. crate, name: the callee's. mod: the file to write.
-    params: (name, Kind or 'slice'). result: the Kind of what it returns.
+    params: (name, Kind or Slice). result: the Kind of what it returns.
     after: what its `ensures` says, over the parameters' names: the result (shr), or the Stage (mut).
     requires: what its `requires` says, or None. cites: what these two name (parts.spec_uses)."""
 
     def __init__(self, here, kit, crate, name, mod, params, result, mode, after, requires, cites, stage=None):
         self.__dict__.update({k: v for k, v in locals().items() if k != 'self'})
         self.F = dashed(name)
-        self.slices = [n for n, k in params if k == 'slice']
-        self.plain = [(n, k) for n, k in params if k != 'slice']
+        self.slices = [n for n, k in params if isinstance(k, Slice)]
+        self.plain = [(n, k) for n, k in params if isinstance(k, Kind)]
+        self.row = {n: k.row for n, k in params if isinstance(k, Slice)}
         self.key = '#%s·%s' % (crate, self.F)
-        self.calls = 'code.calls-%s·%s' % (crate.replace('_', '-'), self.F)
+        self.calls = calls(crate, name)
 
     def uses(self):
         """What the walk imports of it, beside the file."""
@@ -24,18 +25,18 @@ class Callee:
         return 'use %s.Symbol as %s-def\nuse %s.Symbol.{name as %s}\nuse %s.Met as %s-thm\n' % (p, self.F, p, self.key, p, self.F)
 
     def text(self):
-        F, sl, R, mut = self.F, self.slices, self.result, self.mode == 'mut'
+        F, sl, R, mut, row = self.F, self.slices, self.result, self.mode == 'mut', self.row
         ref = 'MutSlice' if mut else 'ShrSlice'
         number = {n: i + 1 for i, n in enumerate(sl)}
         I, J = ' ' * 6, ' ' * 8
 
         def own(n, ν='(k .0 ∷ [])', δ=None):
-            return '‵ (%s (named 0) %s u32 .own (at-list u32 %s %s %s) (slice-at u32 %s %s ∷ []))' % (ref, ν, at(n), δ or '(k .%d)' % number[n], n, at(n), n)
+            return '‵ (%s (named 0) %s %s .own (at-list %s %s %s %s) (slice-at %s %s %s ∷ []))' % (ref, ν, row[n], row[n], at(n), δ or '(k .%d)' % number[n], n, row[n], at(n), n)
 
         def lent(n, ν='(k .0 ∷ [])', δ=None):
             if mut:
-                return '‵ (Loan u32 %s %s %s (length %s))' % (at(n), ν, δ or '(k .%d)' % number[n], n)
-            return '‵ (Shared u32 %s %s %s)' % (at(n), ν, n)
+                return '‵ (Loan %s %s %s %s (length %s))' % (row[n], at(n), ν, δ or '(k .%d)' % number[n], n)
+            return '‵ (Shared %s %s %s %s)' % (row[n], at(n), ν, n)
 
         t = '-- The call of `%s` as a walk has it that holds the buffers\' memory: the memory is lent for the call and taken back, and the result is known.\n' % self.name
         t += '--     before, after       what stands before the call and after it\n-- Assumes `Given`.\n'
@@ -44,12 +45,12 @@ class Callee:
         t += 'module _ {M : Type 1} (𝓤 : URA M) (H : Heap 𝓤) (A : Atoms 𝓤) (mem : Memory → SProp 𝓤) (run″ : Routine → Fun 𝓤) where\n'
         t += '  abbrev pub Called : Contract 𝓤\n  Called = tripleOf 𝓤 H A %s.signature (%s.spec 𝓤 H A mem run″)\n\n' % (F, F)
         t += '  module _ (W : Given 𝓤 H A) (%s : ℕ) where\n' % ' '.join(at(n) for n in sl)
-        t += '    abbrev pub Held : %s → Item 𝓤\n    Held %s = %s\n\n' % (' → '.join('List ℕ' for n in sl), ' '.join(sl), chain('‵ (Cells u32 %s %s)' % (at(n), n) for n in sl))
-        t += '    module _ %s where\n' % ' '.join('(%s : %s)' % (n, 'List ℕ' if k == 'slice' else k.ty) for n, k in self.params)
+        t += '    abbrev pub Held : %s → Item 𝓤\n    Held %s = %s\n\n' % (' → '.join('List ℕ' for n in sl), ' '.join(sl), chain('‵ (Cells %s %s %s)' % (row[n], at(n), n) for n in sl))
+        t += '    module _ %s where\n' % ' '.join('(%s : %s)' % (n, k.ty) for n, k in self.params)
         t += I + '-- the lifetime of the call, and the ghost names\n' + I + 'abbrev pub Key : Type 0\n' + I + 'Key = ℕ × %s\n\n' % ' × '.join('GName' for n in sl)
         t += I + 'abbrev pub to : Key → Called .Ghost\n' + I + 'to k = (((k .0 ∷ [], tt), (fullShare, tt), tt, %s, %s), tt)\n\n' % (
-            nest('(at-list u32 %s (k .%d) %s)' % (at(n), number[n], n) if k == 'slice' else n for n, k in self.params),
-            nest('(slice-at u32 %s %s) ∷ []' % (at(n), n) if k == 'slice' else k.vals(n) for n, k in self.params))
+            nest('(at-list %s %s (k .%d) %s)' % (row[n], at(n), number[n], n) if n in row else n for n, k in self.params),
+            nest('(slice-at %s %s %s) ∷ []' % (row[n], at(n), n) if n in row else k.vals(n) for n, k in self.params))
         t += I + 'abbrev pub Out : Key → Item 𝓤\n' + I + 'Out k = %s\n\n' % chain(lent(n) for n in sl)
         t += I + 'abbrev pub after-it : %s\n' % (self.stage.name if mut else R.ty) + I + 'after-it = %s\n\n' % self.after
         res = self.stage.held('after-it') if mut else 'after-it'
@@ -73,7 +74,7 @@ class Callee:
         cx = Context(['o', 'tok'] + ['own·' + n for n in sl])
         b = ('says ! ready $ ' if self.requires else '') + 'nothing ! $ '
         for n, k in reversed(self.params):
-            if k == 'slice':
+            if n in self.row:
                 b += cx.move('own·' + n, 'o') + 'fjoin ! $ '
                 cx.front(2, ['o'])
             else:
@@ -87,14 +88,14 @@ class Callee:
     def before(self, own, lent, J):
         sl = self.slices
         t = J + 'pub before : %s ent 𝓤 (mean 𝓤 H A (Held %s)) (mean 𝓤 H A (later (some (λ (k : Key). raw (Called .pre (to k)) ⊛ Out k))))\n' % (
-            ' '.join('Room u32 (length %s) →' % n for n in sl), ' '.join(sl))
+            ' '.join('Room %s (length %s) →' % (self.row[n], n) for n in sl), ' '.join(sl))
         cx = Context(['held'])
         b = 'updating ! $ ' + cx.split(['c·' + n for n in sl]) + 'lft-new ! tt (λ ν. '
         cx.items.insert(0, 'tok')
         law = 'slice-lends' if self.mode == 'mut' else 'slice-shares'
         for n in sl:
-            b += '\n' + J + '    ' + cx.move('c·' + n) + 'use1 W (later (some (λ (δ : GName). %s ⊛ %s))) (%s u32 %s 𝓤 H A W (named 0) (ν ∷ []) %s r-%s) $ await ! tt $ pick ! (λ δ-%s. split ! $ ' % (
-                own(n, '(ν ∷ [])', 'δ'), lent(n, '(ν ∷ [])', 'δ'), law, at(n), n, n, n)
+            b += '\n' + J + '    ' + cx.move('c·' + n) + 'use1 W (later (some (λ (δ : GName). %s ⊛ %s))) (%s %s %s 𝓤 H A W (named 0) (ν ∷ []) %s r-%s) $ await ! tt $ pick ! (λ δ-%s. split ! $ ' % (
+                own(n, '(ν ∷ [])', 'δ'), lent(n, '(ν ∷ [])', 'δ'), law, self.row[n], at(n), n, n, n)
             cx.front(1, ['own·' + n, 'lent·' + n])
         key = '(ν, %s)' % ', '.join('δ-' + n for n in sl)
         b += '\n' + J + '    at-once ! $ show ! (λ (k : Key). sep 𝓤 (Called .pre (to k)) (mean 𝓤 H A (Out k))) %s $ ' % key
@@ -104,7 +105,7 @@ class Callee:
         return t + J + 'before %s =\n' % ' '.join('r-' + n for n in sl) + J + '    qed W (Held %s ∷ []) ∵ %s\n\n' % (' '.join(sl), b)
 
     def afterwards(self, res, I, J):
-        F, sl, R, S, mut = self.F, self.slices, self.result, self.stage, self.mode == 'mut'
+        F, sl, R, S, mut, row = self.F, self.slices, self.result, self.stage, self.mode == 'mut', self.row
         t = I + 'pub after : (k : Key) (w : Val) → ent 𝓤 (sep 𝓤 (Called .post (to k) w) (mean 𝓤 H A (Out k))) (H .⇛ (guard 𝓤 (Told w) (mean 𝓤 H A (Held %s))))\n' % (
             ' '.join(S.of('after-it', n) if mut else n for n in sl))
         b = 'updating ! $\n' + J + '  use1 W (later (some (λ (r : %s). ((‵ (flft (k .0 ∷ []) fullShare) ⊛ ‵ ftrue) ⊛ ‵ (%s .own r (w ∷ []))) ⊛ raw (ensured 𝓤 H A %s.ended (%s.clauses 𝓤 H A mem run″) (k .0 ∷ [], tt) (to k .0 .3) tt r)))) (id⊢ 𝓤 _) $ await ! tt $ pick ! (λ r.\n' % (R.ty, R.row, F, F)
@@ -112,8 +113,8 @@ class Callee:
         cx = Context(['tokres', 'ens', 'out'])
         b += J + '  split ! $ ' + cx.move('ens')
         if mut:
-            last = ' × ('.join('List ℕ' if k == 'slice' else 'Unit {0}' for n, k in self.params) + ' × Unit {0}' + ')' * (len(self.params) - 1)
-            final = {n: '(zs' + ' .1' * j + ' .0)' for j, (n, k) in enumerate(self.params) if k == 'slice'}
+            last = ' × ('.join(k.ty if n in row else 'Unit {0}' for n, k in self.params) + ' × Unit {0}' + ')' * (len(self.params) - 1)
+            final = {n: '(zs' + ' .1' * j + ' .0)' for j, (n, k) in enumerate(self.params) if n in row}
             says = '%s r %s ≡ after-it' % (S.make, ' '.join(final[n] for n in sl))
             b += 'use1 W (some (λ (zs : %s). ‵ (lasts %s.ended (k .0 ∷ [], tt) (to k .0 .3) zs) ⊛ raw (fact 𝓤 (%s)))) (id⊢ 𝓤 _) $ pick ! (λ zs.\n' % (last, F, says)
             cx.front(1, ['lasts', 'fact'])
@@ -126,7 +127,7 @@ class Callee:
                 if seen == len(sl):
                     break
                 b += 'fsplit ! $ '
-                if k == 'slice':
+                if n in row:
                     b += 'fsplit ! $ '
                     cx.front(1, ['fin·' + n, 'eq·' + n, 'lasts'])
                     seen += 1
@@ -156,11 +157,11 @@ class Callee:
         for n in sl:
             b += '\n' + J + '  '
             if mut:
-                b += cx.move('dead', 'lent·' + n, 'fin·' + n) + 'use3 W (later (‵ (Cells u32 %s %s) ⊛ ‵ (fdead (k .0 ∷ [])))) (slice-returns u32 %s 𝓤 H A W (k .0 ∷ []) (k .%d) (length %s) %s)' % (
-                    at(n), final[n], at(n), sl.index(n) + 1, n, final[n])
+                b += cx.move('dead', 'lent·' + n, 'fin·' + n) + 'use3 W (later (‵ (Cells %s %s %s) ⊛ ‵ (fdead (k .0 ∷ [])))) (slice-returns %s %s 𝓤 H A W (k .0 ∷ []) (k .%d) (length %s) %s)' % (
+                    row[n], at(n), final[n], row[n], at(n), sl.index(n) + 1, n, final[n])
                 cx.front(3, ['c·' + n, 'dead'])
             else:
-                b += cx.move('dead', 'lent·' + n) + 'use2 W (later (‵ (Cells u32 %s %s) ⊛ ‵ (fdead (k .0 ∷ [])))) (slice-unshares u32 %s 𝓤 H A W (k .0 ∷ []) %s)' % (at(n), n, at(n), n)
+                b += cx.move('dead', 'lent·' + n) + 'use2 W (later (‵ (Cells %s %s %s) ⊛ ‵ (fdead (k .0 ∷ [])))) (slice-unshares %s %s 𝓤 H A W (k .0 ∷ []) %s)' % (row[n], at(n), n, row[n], at(n), n)
                 cx.front(2, ['c·' + n, 'dead'])
             b += ' $ await ! tt $ split ! $ '
         b += '\n' + J + '  '
@@ -168,7 +169,7 @@ class Callee:
         told = 'value = ap only (%s); is = subst (Is %s %s) (%s) is' % (tells, R.row, res, tells)
         if mut:
             for n in sl:
-                b += 'rewrite ! %d (λ (x : %s). ‵ (Cells u32 %s %s)) e refl $ ' % (cx.at('c·' + n), S.name, at(n), S.of('x', n))
+                b += 'rewrite ! %d (λ (x : %s). ‵ (Cells %s %s %s)) e refl $ ' % (cx.at('c·' + n), S.name, row[n], at(n), S.of('x', n))
                 told += '; %s-len = subst (λ (x : %s). length %s ≡ length %s) e len-%s' % (n, S.name, S.of('x', n), n, n)
         b += '\n' + J + '  at-once ! $ check ! (record { %s }) $ ' % told + cx.keep(*['c·' + n for n in sl]) + 'done !' + ')' * par
         return t + I + 'after k w =\n' + J + '  qed W (raw (Called .post (to k) w) ∷ Out k ∷ []) ∵ ' + b + '\n'
@@ -181,7 +182,7 @@ class Plain:
         self.__dict__.update({k: v for k, v in locals().items() if k != 'self'})
         self.F = dashed(name)
         self.key = '#%s·%s' % (crate, self.F)
-        self.calls = 'code.calls-%s·%s' % (crate.replace('_', '-'), self.F)
+        self.calls = calls(crate, name)
 
     uses = Callee.uses
 

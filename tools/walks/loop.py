@@ -2,7 +2,7 @@
 
     let mut p = begin(.., the buffers, ..);
     while p.going { [if p.flag] p = turn(.., the buffers, p, list[p.at]); .. }
-    [charge(account, p.growth);]
+    [count(account, p.growth);]
     p.answer
 """
 from parts import *
@@ -19,7 +19,7 @@ def is_list(k):
 
 class Loop:
     """root, here, name: the repository, and the function's crate and name. kit: the crate of Frame and Opening.
-    params: (name, Kind | 'slice' | ('ref', Kind) | ('list', Kind)).  'slice' is a &mut [u32], 'ref' a &mut S, 'list' a &[S].
+    params: (name, Kind | Slice | ('ref', Kind) | ('list', Kind)).  A Slice is a &mut [u32] or of other numbers, 'ref' a &mut S, 'list' a &[S].
     stage: the Stage. carried: the Kind of p. result, answer, answer_at: the Kind, the field and the field's number of what is returned.
     size: of each list, the bytes of an element.
     begin: its Callee; begin_args, begin_is, begin_ready: what it is passed where that is no parameter, that it is one, and its `requires`.
@@ -27,18 +27,18 @@ class Loop:
     arms: one, or two by the flag p.FLAG; each with
         callee, list, index (p's number), none (what getD has outside), args, is, ready, next (the stage after it), inv, falls, within,
         and of two: name, body (its MIR).
-    charge: None, or dict(charge=Charge, growth, room, and index or made, made_ready): what is charged and that it fits; it is p's field of
+    counting: None, or dict(by=Counting, growth, room, and index or made, made_ready): what is counted and that it fits; it is p's field of
         that number, or what the Plain callee made returns for p.
     last: the last value of the lent struct. done: what the `ensures` says at the stage s. done_is: that it does at the turn x.
     inv_params, inv: the parameters of the invariant, and what `Inv` and `μ` are applied to.
     laws: (crate, module of its proofs, names) that the proof cites. cites: definitions (parts.spec_uses). small: (Kind, fields), or None."""
 
-    flag = None
+    flag = counting = last = None
 
     def __init__(self, **given):
         self.__dict__.update(given)
         self.F = dashed(self.name)
-        self.slices = [n for n, k in self.params if k == 'slice']
+        self.slices = [n for n, k in self.params if isinstance(k, Slice)]
         self.plain = [(n, k) for n, k in self.params if isinstance(k, Kind)]
         self.refs = [(n, k[1]) for n, k in self.params if is_ref(k)]
         self.lists = [(n, k[1]) for n, k in self.params if is_list(k)]
@@ -49,8 +49,10 @@ class Loop:
         self.count, self.body = function(self.root, self.here, self.name)
         self.blocks = ' '.join(block(i) for i in range(self.count))
         self.front = ['held'] + sum([['tok·' + n, 'own·' + n] for n, k in self.lists], []) + (['acc', 'ro'] if self.refs else []) + ['kept']
-        self.made = self.charge.get('made') if self.charge else None
-        self.callees = [self.begin] + [a['callee'] for a in self.arms] + ([self.made] if self.made else []) + ([self.charge['charge']] if self.charge else [])
+        self.made = self.counting.get('made') if self.counting else None
+        self.callees = [self.begin] + [a['callee'] for a in self.arms] + ([self.made] if self.made else []) + ([self.counting['by']] if self.counting else [])
+        for c in [self.begin] + [a['callee'] for a in self.arms]:
+            assert all(c.row[n] == self.row(n) for n in c.slices), c.name
         # the loop
         self.loop_at = [i for i, b in enumerate(self.body) if isinstance(b, list) and b[0] == 'block'][0]
         self.turn = flat(self.body[self.loop_at][1][1])
@@ -62,10 +64,12 @@ class Loop:
 
     # ---- small texts
     def row(self, n):
-        return 'u32' if n in self.slices else dict(self.lists)[n].row
+        """The row of a buffer's or a list's elements."""
+        k = self.kind[n]
+        return k.row if isinstance(k, Slice) else k[1].row
 
     def type(self, k):
-        return k.ty if isinstance(k, Kind) else 'List ℕ' if k == 'slice' else k[1].ty if is_ref(k) else 'List %s' % k[1].ty
+        return k[1].ty if is_ref(k) else 'List %s' % k[1].ty if is_list(k) else k.ty
 
     def fat_value(self, n):
         return '(slice-at %s %s %s)' % (self.row(n), at(n), n)
@@ -90,14 +94,14 @@ class Loop:
         k = self.kind[n]
         if isinstance(k, Kind):
             return k.row
-        name = 'MutSlice' if k == 'slice' else 'MutRef' if is_ref(k) else 'ShrSlice'
-        return '%s (named %d) κ-%s %s' % (name, self.life[n], n, 'u32' if k == 'slice' else k[1].row)
+        name = 'MutRef' if is_ref(k) else 'ShrSlice' if is_list(k) else 'MutSlice'
+        return '%s (named %d) κ-%s %s' % (name, self.life[n], n, self.row(n))
 
     def own(self, n):
         return '(%s .own %s (%s ∷ []))' % (self.type_row(n), self.argument(n), self.fat_value(n))
 
     def held(self, lists):
-        return chain('‵ (Cells u32 %s %s)' % (at(n), l) for n, l in zip(self.slices, lists))
+        return chain('‵ (Cells %s %s %s)' % (self.row(n), at(n), l) for n, l in zip(self.slices, lists))
 
     def carried_at(self, x):
         return self.stage.held('%s .at' % x)
@@ -208,7 +212,7 @@ class Loop:
             self.items['ro'] = '‵ (RefOpened %s %s κ-%s q-%s γ-%s %s)' % (k.row, at(n), n, n, n, n)
         self.back = self.front[1:]
         self.fin = [l for l in self.back if l not in ('acc', 'ro')]
-        if self.charge:
+        if self.counting:
             n, k = self.refs[0]
             self.fin = self.fin[:-1] + ['res', 'toka', 'kept']
             self.items['res'] = '‵ (fres γ-%s (%s .coded .code %s))' % (n, k.row, self.last)
@@ -221,7 +225,7 @@ class Loop:
         t += '-- Each buffer is opened at the start and closed at the end; in between the walk has its memory, which it lends to each callee. A list of records is looked into at each turn. The loop goes by `proofs/Loop.antt`.\n'
         t += '-- The context is [%s; _0; …; _%d; that the locals die]. Assumes nothing.\n' % ('; '.join(self.front), self.count - 1)
         t += ''.join('mod %s\n' % c.mod for c in self.callees)
-        t += HEAD + kind_uses(here, [k for n, k in self.plain + self.refs + self.lists] + [self.carried, self.result] + ([self.charge['charge'].growth] if self.charge else []))
+        t += HEAD + kind_uses(here, [k for n, k in self.plain + self.refs + self.lists] + [self.carried, self.result] + ([self.counting['by'].growth] if self.counting else []))
         t += spec_uses(here, self.cites) + ''.join('use %s.%s.{%s}\n' % (proofs(here, c), m, ', '.join(ns)) for c, m, ns in self.laws) + kit_uses(here, self.kit)
         for c in self.callees:
             t += 'use %s.Proof.%s as %s\n' % (own, c.mod, c.mod) + c.uses()
@@ -234,12 +238,12 @@ class Loop:
             if isinstance(k, Kind):
                 stays.append('stay-none (λ _. %s) yes' % k.row)
                 goes.append('goes-none 𝓤 H A W %d (λ _. %s) yes (λ κs x f. refl)' % (many, k.row))
-            elif k == 'slice':
-                stays.append('stay-slice (%d ∷ []) tt (plain (λ _. u32))' % i)
-                goes.append('goes-slice 𝓤 H A W %d %d tt (plain (λ _. u32))' % (many, i))
+            elif isinstance(k, Slice):
+                stays.append('stay-slice (%d ∷ []) tt (plain (λ _. %s))' % (i, k.row))
+                goes.append('goes-slice 𝓤 H A W %d %d tt (plain (λ _. %s))' % (many, i, k.row))
             elif is_ref(k):
-                stays.append('%s-ref (%d ∷ []) tt (plain (λ _. %s))' % ('gave' if self.charge else 'stay', i, k[1].row))
-                goes.append('goes-%sref 𝓤 H A W %d %d tt (plain (λ _. %s))' % ('gave-' if self.charge else '', many, i, k[1].row))
+                stays.append('%s-ref (%d ∷ []) tt (plain (λ _. %s))' % ('gave' if self.counting else 'stay', i, k[1].row))
+                goes.append('goes-%sref 𝓤 H A W %d %d tt (plain (λ _. %s))' % ('gave-' if self.counting else '', many, i, k[1].row))
             else:
                 stays.append('stay-none-slice (%d ∷ []) tt (plain (λ _. %s)) yes' % (i, k[1].row))
                 goes.append('goes-none-slice 𝓤 H A W %d (%d ∷ []) tt (plain (λ _. %s)) yes' % (many, i, k[1].row))
@@ -284,7 +288,7 @@ class Loop:
         t += '  abbrev bound : walkOf 𝓤 H A %s.ended stayed (%s.clauses 𝓤 H A mem run″) .Ghost\n  bound = ((%s, %s, tt, args, at), tt)\n\n' % (F, F, self.κs, self.qs)
         t += '  abbrev Post : Val → SProp 𝓤\n  Post = walkOf 𝓤 H A %s.ended stayed (%s.clauses 𝓤 H A mem run″) .post bound\n\n' % (F, F)
         t += '  abbrev Held : %s → Item 𝓤\n  Held s = %s\n\n' % (self.stage.name, self.held([self.stage.of('s', n) for n in self.slices]))
-        t += '  abbrev Kept : Item 𝓤\n  Kept = %s\n\n' % chain('‵ (Opened u32 %s κ-%s q-%s γ-%s %s)' % (at(n), n, n, n, n) for n in self.slices)
+        t += '  abbrev Kept : Item 𝓤\n  Kept = %s\n\n' % chain('‵ (Opened %s %s κ-%s q-%s γ-%s %s)' % (self.row(n), at(n), n, n, n, n) for n in self.slices)
         t += '  -- what the walk has beside the buffers and its locals\n  abbrev Rest : Item 𝓤\n  Rest = %s\n\n' % chain(self.items[l] for l in self.back)
         t += '  abbrev Toks : Item 𝓤\n  Toks = %s ⊛ ‵ ftrue\n\n  abbrev Owns : Item 𝓤\n  Owns = ‵ (owns (%s ∷ []) args at)\n\n' % (
             chain('‵ (flft κ-%s q-%s)' % (n, n) for n in self.lent), ' ∷ '.join(self.type_row(n) for n, k in params))
@@ -307,9 +311,9 @@ class Loop:
             else:
                 cx.front(1, ['m·' + n, 'owns'])
                 b += cx.move('m·' + n, 'tok·' + n)
-                if k == 'slice':
-                    b += 'use2 W (later (‵ (Cells u32 %s %s) ⊛ ‵ (Opened u32 %s κ-%s q-%s γ-%s %s))) (slice-opens u32 %s 𝓤 H A W (named %d) κ-%s q-%s γ-%s %s) $ await ! tt $ split ! $ ' % (
-                        at(n), n, at(n), n, n, n, n, at(n), self.life[n], n, n, n, n)
+                if isinstance(k, Slice):
+                    b += 'use2 W (later (‵ (Cells %s %s %s) ⊛ ‵ (Opened %s %s κ-%s q-%s γ-%s %s))) (slice-opens %s %s 𝓤 H A W (named %d) κ-%s q-%s γ-%s %s) $ await ! tt $ split ! $ ' % (
+                        k.row, at(n), n, k.row, at(n), n, n, n, n, k.row, at(n), self.life[n], n, n, n, n)
                     cx.front(2, ['c·' + n, 'o·' + n])
                 else:
                     b += 'use2 W (later (given %s (%s ⊛ %s))) (ref-opens %s %s 𝓤 H A W %s %s (named %d) κ-%s q-%s γ-%s %s) $ await ! tt $ learn ! (λ %s-is. split ! $ ' % (
@@ -331,15 +335,15 @@ class Loop:
         cx = Context(['held'] + self.fin)
         b = 'updating ! $ ' + cx.split(['c·' + n for n in self.slices]) + cx.move('kept') + cx.split(['o·' + n for n in self.slices])
         for n in self.slices:
-            i, ys = self.life[n], S.of('s', n)
+            i, ys, row = self.life[n], S.of('s', n), self.row(n)
             b += '\n        ' + cx.move('c·' + n, 'o·' + n)
-            b += 'use2 W (later (‵ (MutSlice (named %d) κ-%s u32 .own (at-list u32 %s γ-%s %s) (%s ∷ [])) ⊛ ‵ (flft κ-%s q-%s))) (slice-closes u32 %s 𝓤 H A W (named %d) κ-%s q-%s γ-%s %s %s r-%s %s-len) $ await ! tt $ split ! $ ' % (
-                i, n, at(n), n, ys, self.fat_value(n), n, n, at(n), i, n, n, n, n, ys, n, n)
+            b += 'use2 W (later (‵ (MutSlice (named %d) κ-%s %s .own (at-list %s %s γ-%s %s) (%s ∷ [])) ⊛ ‵ (flft κ-%s q-%s))) (slice-closes %s %s 𝓤 H A W (named %d) κ-%s q-%s γ-%s %s %s r-%s %s-len) $ await ! tt $ split ! $ ' % (
+                i, n, row, row, at(n), n, ys, self.fat_value(n), n, n, row, at(n), i, n, n, n, n, ys, n, n)
             cx.front(2, ['m·' + n, 'tok·' + n])
-        if self.charge:
+        if self.counting:
             cx.items[cx.at('toka')] = 'tok·' + self.refs[0][0]
-        last = ['tt' if isinstance(k, Kind) or is_list(k) else S.of('s', n) if k == 'slice' else self.last for n, k in self.params]
-        fits = ['%s-len' % n if k == 'slice' else 'tt' for n, k in self.params]
+        last = ['tt' if isinstance(k, Kind) or is_list(k) else self.last if is_ref(k) else S.of('s', n) for n, k in self.params]
+        fits = ['%s-len' % n if isinstance(k, Slice) else 'tt' for n, k in self.params]
         b += '\n        at-once ! $ suffices ! _ (ends-at 𝓤 H A %s.ended stayed (%s.clauses 𝓤 H A mem run″) W bound %s %s %s %s) $ says ! done-so $ nothing ! $ ' % (F, F, R.val(out), out, nest(last), nest(fits))
         cx.items.insert(0, 'true')
         b += cx.group(['tok·' + n for n in self.lent] + ['true'], 'toks') + 'frame ! $ \n        nothing ! $ '
@@ -348,7 +352,7 @@ class Loop:
             if isinstance(k, Kind):
                 b += k.owned(n, n + '-is') + 'fjoin ! $ '
             else:
-                b += cx.move('m·' + n if k == 'slice' else 'own·' + n if is_list(k) else 'res', 'o') + 'fjoin ! $ '
+                b += cx.move('res' if is_ref(k) else 'own·' + n if is_list(k) else 'm·' + n, 'o') + 'fjoin ! $ '
                 cx.front(2, ['o'])
         b += 'frame ! $ %sdone !' % R.owned(out, 'end-is')
         return t + '    finish =\n        qed W (Held s ∷ %s ∷ []) ∵ ' % ' ∷ '.join(self.items[l] for l in self.fin) + b + '\n\n'
@@ -418,50 +422,50 @@ class Loop:
                 a, opened, d = self.made_for(cx, st, I)
                 t += a
                 par += opened
-                extra[d] = self.made.result.val(self.charge['growth'])
+                extra[d] = self.made.result.val(self.counting['growth'])
             else:
-                a, opened, d = self.charged(cx, st, I)
+                a, opened, d = self.counted(cx, st, I)
                 t += a
                 par += opened
                 extra[d] = 'u'
         t += I + cx.group(['held'] + self.fin, 'fin') + 'use1 W (later (raw (Post %s))) (finish (x .at) %s (%s) end-is) $ await ! tt $\n' % (R.val(out), ' '.join('(x .%s-len)' % n for n in self.slices), self.done_is)
         t += I + 'returns ! (look ! %d refl) $ leave-all ! E (%s) (done !)%s\n' % (self.pos(cx, 0), self.slots('x', extra), ')' * par)
         t += '        where\n          end-is : %s\n          end-is = %s\n' % (R.is_(out, '(%s ∷ [])' % R.val(out)), self.field_is('x', self.answer_at))
-        if self.charge and not self.made:
-            k, g = self.charge['charge'].growth, self.charge['growth']
-            t += '\n          growth-is : %s\n          growth-is = %s\n' % (k.is_(g), self.field_is('x', self.charge['index']))
+        if self.counting and not self.made:
+            k, g = self.counting['by'].growth, self.counting['growth']
+            t += '\n          growth-is : %s\n          growth-is = %s\n' % (k.is_(g), self.field_is('x', self.counting['index']))
         return t + '\n'
 
     def made_for(self, cx, st, I):
-        """The call that makes what is charged from p."""
+        """The call that makes what is counted from p."""
         c, k = self.made, self.made.result
         d = place(st[3])[0]
 
         def app(name):
             return '%s.%s 𝓤 H A mem run″ W %s' % (c.mod, name, self.carried_at('x'))
 
-        t = I + 'use0 W (raw (%s.Called 𝓤 H A mem run″ .pre (%s))) (%s (x .is)%s) $\n' % (c.mod, app('to'), app('before'), ' ' + self.charge['made_ready'] if c.requires else '')
+        t = I + 'use0 W (raw (%s.Called 𝓤 H A mem run″ .pre (%s))) (%s (x .is)%s) $\n' % (c.mod, app('to'), app('before'), ' ' + self.counting['made_ready'] if c.requires else '')
         cx.items.insert(0, 'pre')
         t += I + 'calls-at ! (fmOf 𝓤 H (W .laws) 𝓣) (%s.Called 𝓤 H A mem run″) known-%s (%s) %s (λ w.\n' % (c.mod, c.F, app('to'), self.operands(cx, items(st[2])))
         t += I + 'use1 W (later (given (%s w) (‵ ftrue))) (%s w) $ await ! tt $ learn ! (λ made. drop ! $ ' % (app('Told'), app('after'))
         cx.front(1, [])
-        growth = self.charge['growth']
+        growth = self.counting['growth']
         t += 'land ! (from ! (stop !)) (init ! %d refl %s) $\n' % (self.pos(cx, d), k.typed(growth, '(w ∷ [])', '(subst (λ (u : Val). Is %s %s (u ∷ [])) (sym (made .value)) (made .is))' % (k.row, growth)))
         t += I + 'rewrite ! %d (λ (u : Val). ‵ (fat fullShare %s-l.mir %s 0 u)) (made .value) refl $\n' % (self.pos(cx, d), k.name, block(d))
         return t, 2, d
 
-    def charged(self, cx, st, I):
-        """The call of charge: the borrow is closed and passed on for good."""
-        ch, c = self.charge, self.charge['charge']
+    def counted(self, cx, st, I):
+        """The call that counts into the lent struct: the borrow is closed and passed on for good."""
+        counting, c = self.counting, self.counting['by']
         n, k = self.refs[0]
         assert callee(st) == (c.crate, c.name), st
         d = place(st[3])[0]
 
         def app(name):
-            return '%s.%s 𝓤 H A mem run″ W κ-%s q-%s γ-%s %s %s %s' % (c.mod, name, n, n, n, at(n), n, ch['growth'])
+            return '%s.%s 𝓤 H A mem run″ W κ-%s q-%s γ-%s %s %s %s' % (c.mod, name, n, n, n, at(n), n, counting['growth'])
 
         t = I + cx.move('acc', 'ro') + 'use2 W (later (‵ (MutRef (named %d) κ-%s %s .own %s (%s ∷ [])) ⊛ ‵ (flft κ-%s q-%s))) (ref-closes %s %s 𝓤 H A W %s (named %d) κ-%s q-%s γ-%s %s %s %s %s-is′) $ await ! tt $ use1 W (raw (%s.Called 𝓤 H A mem run″ .pre (%s))) (%s %s %s) $\n' % (
-            self.life[n], n, k.row, self.argument(n), self.pointer(n), n, n, k.row, at(n), k.makes(), self.life[n], n, n, n, n, n, k.vals(n), n, c.mod, app('to'), app('before'), '(made .is)' if self.made else 'growth-is', ch['room'])
+            self.life[n], n, k.row, self.argument(n), self.pointer(n), n, n, k.row, at(n), k.makes(), self.life[n], n, n, n, n, n, k.vals(n), n, c.mod, app('to'), app('before'), '(made .is)' if self.made else 'growth-is', counting['room'])
         cx.front(2, ['pre'])
         t += I + 'calls-at ! (fmOf 𝓤 H (W .laws) 𝓣) (%s.Called 𝓤 H A mem run″) known-%s (%s) %s (λ u.\n' % (c.mod, c.F, app('to'), self.operands(cx, items(st[2])))
         t += I + 'use1 W (later (given (u ≡ vunit) (%s ⊛ %s))) (%s u) $ await ! tt $ learn ! (λ unit-is. split ! $ ' % (self.items['res'].replace('(s .', '(x .at .'), self.items['toka'], app('after'))
@@ -503,10 +507,10 @@ class Loop:
             local, _ = place(o[1])
             if local in self.fat:
                 n = self.fat[local]
-                t += ind + 'rewrite ! %d (λ (n : ℕ). ‵ (fat fullShare (sliceTy (tyRef erased mut (tyInt w32))) %s 0 (sliceVal (b-%s, o-%s) n))) (sym (x .%s-len)) refl $\n' % (self.pos(cx, local), block(local), n, n, n)
-        args = [a['args'].get(n) or (S.of('x .at', n) if k == 'slice' else self.carried_at('x') if k.name == self.carried.name else n) for n, k in c.params]
+                t += ind + 'rewrite ! %d (λ (n : ℕ). ‵ (fat fullShare (sliceTy (tyRef erased mut (tyInt %s))) %s 0 (sliceVal (b-%s, o-%s) n))) (sym (x .%s-len)) refl $\n' % (self.pos(cx, local), self.kind[n].w, block(local), n, n, n)
+        args = [a['args'].get(n) or (S.of('x .at', n) if isinstance(k, Slice) else self.carried_at('x') if k.name == self.carried.name else n) for n, k in c.params]
         hyps = [a['is'].get(n) or ('(x .is)' if k.name == self.carried.name else n + '-is') for n, k in c.plain] + ([a['ready']] if c.requires else [])
-        rooms = ['(subst (Room u32) (sym (x .%s-len)) r-%s)' % (n, n) for n in c.slices]
+        rooms = ['(subst (Room %s) (sym (x .%s-len)) r-%s)' % (self.row(n), n, n) for n in c.slices]
         t += self.called(cx, c, call, args, hyps, rooms, 'calls-at-last', after, ind)
         par += 3
         t += ind + 'land-last ! (from ! (stop !)) (store ! %d refl %s) $\n' % (self.pos(cx, self.p), self.landed(after))
@@ -597,7 +601,7 @@ class Loop:
 
         spells = nest(k.spells() if isinstance(k, Kind) else 'ptr-vals' if is_ref(k) else 'slice-vals' for n, k in self.params)
         tells = nest(k.tells() if isinstance(k, Kind) else '(%s (named %d) %s %s)' % (
-            'mut-slice-tells' if k == 'slice' else 'mut-tells' if is_ref(k) else 'shr-slice-tells', self.life[n], life(n), 'u32' if k == 'slice' else k[1].row) for n, k in self.params)
+            'mut-tells' if is_ref(k) else 'shr-slice-tells' if is_list(k) else 'mut-slice-tells', self.life[n], life(n), self.row(n)) for n, k in self.params)
         given = [life(n) for n in self.lent] + [nth(i, 'qs') + ')' for i in range(many)]
         given += ['%s .ptr .%d)' % (nth(number[n], 'a'), i) for n in self.lent for i in (0, 1)] + ['%s .name)' % nth(number[n], 'a') for n in self.lent]
         given += [nth(number[n], 'a') + (')' if isinstance(k, Kind) else ' .now)') for n, k in self.params]

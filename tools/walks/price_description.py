@@ -5,7 +5,7 @@ The repository is the one that this file stands in, or the folder named as the f
 import os
 import sys
 
-from parts import Kind, Stage
+from parts import Kind, Slice, Stage
 from call import Callee
 from loop import Loop
 
@@ -18,7 +18,7 @@ Pricing = Kind('Pricing', 'rival_pricing')
 usize = Kind('usize')
 
 BUFFERS = ['blocks', 'held', 'marks']
-slices = [(n, 'slice') for n in BUFFERS]
+slices = [(n, Slice('u32')) for n in BUFFERS]
 buffers = ' '.join(BUFFERS)
 lent = '(lent %s)' % buffers
 stage = Stage('Stage', 'stage', 'progress', {n: '.copies .' + n for n in BUFFERS})
@@ -56,7 +56,6 @@ price = Loop(
           dict(name='with-entry', body='(else-of %s)' % body, callee=take, list='entries', index='(x .at .progress .at)', none='no-entry',
                args={'entry': 'e'}, **{'is': {'entry': 'e-is'}}, ready='(x .inv .goes go .ready)', next='took setup (x .at) e',
                inv='inv-took %s go flag' % at_turn, falls='falls-took %s go flag' % at_turn, within='at-entry %s go' % at_turn)],
-    charge=None, last=None,
     done='(s .progress .answer ≡ priced %s) × (s .copies ≡ priceTables %s)' % (whole, whole), done_is='inv-end %s stopped' % at_turn,
     inv_params=['setup'] + BUFFERS + ['entries', 'requests'], inv=inv,
     laws=[(HERE, 'Loop', ['no-entry', 'no-request', 'Inv', 'μ', 'inv-start', 'inv-took', 'falls-took', 'inv-completed', 'falls-completed', 'at-entry', 'at-request', 'due', 'inv-end'])],

@@ -5,9 +5,9 @@ The repository is the one that this file stands in, or the folder named as the f
 import os
 import sys
 
-from parts import Kind, Stage
+from parts import Kind, Slice, Stage
 from call import Callee, Plain
-from charge import Charge
+from counting import Counting
 from loop import Loop
 
 ROOT = sys.argv[1] if len(sys.argv) > 1 else os.path.dirname(os.path.dirname(os.path.dirname(os.path.abspath(__file__))))
@@ -19,7 +19,7 @@ usize = Kind('usize')
 
 TABLES = ['blocks', 'counters', 'marks', 'words', 'memory']
 BUFFERS = TABLES + ['values']
-slices = [(n, 'slice') for n in BUFFERS]
+slices = [(n, Slice('u32')) for n in BUFFERS]
 buffers = ' '.join(BUFFERS)
 lent = '(lent %s)' % ' '.join(TABLES)
 stage = Stage('Stage', 'stage', 'progress', {n: '.tables .' + n if n in TABLES else '.' + n for n in BUFFERS})
@@ -31,7 +31,7 @@ begin = Callee(HERE, KIT, 'run_steps', 'begin', 'Begin', [('setup', Setup)] + sl
                'begun setup %s account count values' % lent, None, [TABLES_SPEC, ('run_steps', 'Steps', ['begun'])])
 turn = Callee(HERE, KIT, 'run_steps', 'turn', 'Turn', [('setup', Setup)] + slices + [('p', Progress), ('request', Request)], Progress, 'mut',
               'turned setup %s request' % here, 'Ready setup %s' % here, [('run_steps', 'Steps', ['Stage', 'stage', 'Ready', 'turned'])], stage)
-charge = Charge(KIT, HERE, 'charge', 'Charge', (HERE, 'counted'), Account, Account, 'GrowthFits', 'grown', [(HERE, 'Outcomes', ['grown', 'GrowthFits'])])
+charge = Counting(HERE, KIT, HERE, 'charge', 'Charge', (HERE, 'counted'), Account, Account, 'GrowthFits', 'grown', [(HERE, 'Outcomes', ['grown', 'GrowthFits'])])
 growth = Plain(HERE, HERE, 'growth', 'Growth', ('p', Progress), Account, 'growthOf p', 'p .answer .taken < 2 ^ 32', [(HERE, 'Outcomes', ['growthOf'])])
 
 inv = 'setup %s account requests values' % lent
@@ -39,14 +39,14 @@ at_turn = '%s (x .at) (x .inv)' % inv
 
 run = Loop(
     root=ROOT, here=HERE, kit=KIT, name='run',
-    params=[('setup', Setup)] + [(n, 'slice') for n in TABLES] + [('account', ('ref', Account)), ('requests', ('list', Request)), ('values', 'slice')],
+    params=[('setup', Setup)] + [(n, Slice('u32')) for n in TABLES] + [('account', ('ref', Account)), ('requests', ('list', Request)), ('values', Slice('u32'))],
     stage=stage, carried=Progress, result=RunAnswer, answer='answer', answer_at=3, size={'requests': 16},
     begin=begin, begin_args={'count': '(length requests)'}, begin_is={'count': '(refl, r-requests .0)'}, begin_ready=None,
     first='(stage (begun setup %s account (length requests) values) %s)' % (lent, buffers),
     inv_start='inv-start %s (small-fields account-is)' % inv,
     arms=[dict(callee=turn, list='requests', index='(x .at .progress .answer .taken)', none='no-request', args={'request': 'e'}, **{'is': {'request': 'e-is'}},
                ready='(x .inv .goes go .ready)', next='turned setup (x .at) e', inv='inv-turn %s go' % at_turn, falls='inv-falls %s go' % at_turn, within='inv-within %s go' % at_turn)],
-    charge=dict(charge=charge, made=growth, made_ready='(inv-count %s)' % at_turn, growth='(growthOf (x .at .progress))', room='(inv-room %s)' % at_turn),
+    counting=dict(by=charge, made=growth, made_ready='(inv-count %s)' % at_turn, growth='(growthOf (x .at .progress))', room='(inv-room %s)' % at_turn),
     last='(grown account (growthOf (s .progress)))',
     done='outcome (s .progress .answer) (s .tables) (grown account (growthOf (s .progress))) (s .values) ≡ ran setup %s account requests values' % lent,
     done_is='inv-end %s stopped' % at_turn,

@@ -1,35 +1,35 @@
 """The text of the walk of a function that counts into a lent struct, and of a call of it that gives the struct up for good.
 
-    pub fn charge(account: &mut Account, growth: Growth)
+    pub fn grow_lent(account: &mut Account, growth: Account)
         requires { ⌜ GrowthFits (now account) growth ⌝ }
         ensures { λ _. ⌜ now (account .exit) ≡ grown (now (account .entry)) growth ⌝ }
     {
-        *account = counted(*account, growth);
+        *account = grow(*account, growth);
     }
 """
 from parts import *
+from call import Callee
 
 
-class Charge:
-    """crate, name: the function's. counter: (crate, name) of the covered function that it calls.
-    account, growth: Kinds. room, grown: what the contracts of both say, by these names. cites: what these two are (parts.spec_uses).
-    mod: the file of its call."""
+class Counting:
+    """here: the crate of the caller. crate, name: the function's, which may stand in another one. mod: the file of the call.
+    counter: (crate, name) of the covered function that it calls. account, growth: Kinds.
+    room, grown: what the contracts of both say, by these names. cites: what these two are (parts.spec_uses).
 
-    def __init__(self, kit, crate, name, mod, counter, account, growth, room, grown, cites):
+    text() goes to proofs/NAME/Proof.antt of `crate`, call_text() to proofs/CALLER/Proof/MOD.antt of `here`."""
+
+    def __init__(self, here, kit, crate, name, mod, counter, account, growth, room, grown, cites):
         self.__dict__.update({k: v for k, v in locals().items() if k != 'self'})
         self.F = dashed(name)
         self.key = '#%s·%s' % (crate, self.F)
-        self.calls = 'code.calls-%s·%s' % (crate.replace('_', '-'), self.F)
-        self.here = crate
+        self.calls = calls(crate, name)
 
-    def uses(self):
-        p = '%s.%s' % (proofs(self.here, self.crate), self.name)
-        return 'use %s.Symbol as %s-def\nuse %s.Symbol.{name as %s}\nuse %s.Met as %s-thm\n' % (p, self.F, p, self.key, p, self.F)
+    uses = Callee.uses
 
-    def head(self):
-        return HEAD + kind_uses(self.crate, [self.account, self.growth]) + spec_uses(self.crate, self.cites) + kit_uses(self.crate, self.kit)
+    def head(self, here):
+        return HEAD + kind_uses(here, [self.account, self.growth]) + spec_uses(here, self.cites) + kit_uses(here, self.kit)
 
-    # ---- proofs/F/Proof.antt
+    # ---- the walk
     def text(self):
         T, B, F, here = self.account, self.growth, self.F, self.crate
         C, c = self.counter
@@ -38,18 +38,18 @@ class Charge:
         p = '%s.%s' % (proofs(here, C), c)
         own = '%s.%s' % (proofs(here, here), self.name)
         t = '-- `%s::%s` meets its contract: a walk of its MIR, by hand. The borrow of the struct is opened, the struct is copied out and passed to `%s`, and what that returns is stored; the borrow is closed at it.\n-- Assumes nothing.\n' % (here, self.name, c)
-        t += self.head()
+        t += self.head(here)
         t += 'use %s as %s\nuse %s.Symbol as %s-def\nuse %s.Symbol.{name as %s}\nuse %s.Met as %s-thm\n' % (p, G, p, G, p, key, p, G)
         t += 'use %s.Key.{name as %s}\nuse %s as %s\nuse %s.Statement as stated\nuse %s.Code as code\n\n' % (own, self.key, own, F, own, own)
-        names = dict(F=F, G=G, key=key, own=self.key, counted='code.calls-%s·%s' % (C, G), T=T.ty, B=B.ty, Trow=T.row, Brow=B.row, Ttl=T.tl, Btl=B.tl, Tsp=T.spells(), Tte=T.tells(), Bsp=B.spells(), Bte=B.tells(), Tmk=T.makes(), Bmk=B.makes(),
+        names = dict(F=F, G=G, key=key, own=self.key, counted=calls(C, c), T=T.ty, B=B.ty, Trow=T.row, Brow=B.row, Ttl=T.tl, Btl=B.tl, Tsp=T.spells(), Tte=T.tells(), Bsp=B.spells(), Bte=B.tells(), Tmk=T.makes(), Bmk=B.makes(),
                      hvals=T.vals('h'), nvals=B.vals('n'), nval=B.val('n'), room=self.room, grown=self.grown, Tis=T.is_('h'), Bis=B.is_('n'), Tty=T.typed('h', '_', 'h-is'), Rty=T.typed('r', '_', 'is'), Bty=B.typed('n', '_', 'n-is'))
         return prune(t + (WALK % names))
 
-    # ---- proofs/CALLER/Proof/CHARGE.antt
+    # ---- the call
     def call_text(self):
         T, B, F = self.account, self.growth, self.F
         t = '-- The call of `%s` where the borrow is not needed any more: it is passed on at its own lifetime, share and name, and what is had after the call is what says its last value.\n-- Assumes `Given`.\n' % self.name
-        t += self.head() + 'use %s.%s as %s\n\n' % (proofs(self.here, self.crate), self.name, F)
+        t += self.head(self.here) + 'use %s.%s as %s\n\n' % (proofs(self.here, self.crate), self.name, F)
         names = dict(F=F, T=T.ty, B=B.ty, Trow=T.row, Brow=B.row, nvals=B.vals('n'), Bis=B.is_('n'), room=self.room, grown=self.grown, Bow=B.owned('n', 'n-is'))
         return prune(t + (CALL % names))
 
