@@ -274,10 +274,10 @@ class Loop:
 
     def entry(self):
         F, params = self.F, self.params
-        rooms = ' '.join('(r-%s : Room %s (length %s))' % (n, self.row(n), n) for n in self.lent if not is_ref(self.kind[n]))
-        t = 'module _ {M : Type 1} (𝓤 : URA M) (H : Heap 𝓤) (A : Atoms 𝓤) (W : Given 𝓤 H A) (mem : Memory → SProp 𝓤) (run″ : Routine → Fun 𝓤)\n    (%s : Lft) (%s : Share) (%s : ℕ) (%s : GName)\n    %s\n    %s %s where\n' % (
+        known = ['(%s-is : %s)' % (n, k.is_(n)) for n, k in self.plain] + ['(r-%s : Room %s (length %s))' % (n, self.row(n), n) for n in self.lent if not is_ref(self.kind[n])]
+        t = 'module _ {M : Type 1} (𝓤 : URA M) (H : Heap 𝓤) (A : Atoms 𝓤) (W : Given 𝓤 H A) (mem : Memory → SProp 𝓤) (run″ : Routine → Fun 𝓤)\n    (%s : Lft) (%s : Share) (%s : ℕ) (%s : GName)\n    %s\n    %s where\n' % (
             ' '.join('κ-' + n for n in self.lent), ' '.join('q-' + n for n in self.lent), ' '.join(at(n) for n in self.lent), ' '.join('γ-' + n for n in self.lent),
-            ' '.join('(%s : %s)' % (n, self.type(k)) for n, k in params), ' '.join('(%s-is : %s)' % (n, k.is_(n)) for n, k in self.plain), rooms)
+            ' '.join('(%s : %s)' % (n, self.type(k)) for n, k in params), ' '.join(known))
         arg_type, val_type = 'Unit {0}', 'Unit {0}'
         for n, k in reversed(params):
             arg_type = '(%s × %s)' % (k.ty if isinstance(k, Kind) else 'RefT %s' % (self.type(k) if is_ref(k) else '(%s)' % self.type(k)), arg_type)
