@@ -115,7 +115,7 @@ class Callee:
         if mut:
             last = ' × ('.join(k.ty if n in row else 'Unit {0}' for n, k in self.params) + ' × Unit {0}' + ')' * (len(self.params) - 1)
             final = {n: '(zs' + ' .1' * j + ' .0)' for j, (n, k) in enumerate(self.params) if n in row}
-            says = '%s r %s ≡ after-it' % (S.make, ' '.join(final[n] for n in sl))
+            says = '%s ≡ after-it' % S.made('r', [final[n] for n in sl])
             b += 'use1 W (some (λ (zs : %s). ‵ (lasts %s.ended (k .0 ∷ [], tt) (to k .0 .3) zs) ⊛ raw (fact 𝓤 (%s)))) (id⊢ 𝓤 _) $ pick ! (λ zs.\n' % (last, F, says)
             cx.front(1, ['lasts', 'fact'])
             b += J + '  split ! $ ' + cx.move('fact') + 'heard ! (%s) (λ e.\n' % says

@@ -12,25 +12,19 @@ from call import Callee
 
 
 class Counting:
-    """here: the crate of the caller. crate, name: the function's, which may stand in another one. mod: the file of the call.
-    counter: (crate, name) of the covered function that it calls. account, growth: Kinds.
-    room, grown: what the contracts of both say, by these names. cites: what these two are (parts.spec_uses).
+    """The function. crate, name: its own. counter: (crate, name) of the covered function that it calls. account, growth: Kinds.
+    room, grown: what the contracts of both say, by these names. cites: what these two are (parts.spec_uses)."""
 
-    text() goes to proofs/NAME/Proof.antt of `crate`, call_text() to proofs/CALLER/Proof/MOD.antt of `here`."""
-
-    def __init__(self, here, kit, crate, name, mod, counter, account, growth, room, grown, cites):
+    def __init__(self, crate, name, counter, account, growth, room, grown, cites):
         self.__dict__.update({k: v for k, v in locals().items() if k != 'self'})
         self.F = dashed(name)
         self.key = '#%s·%s' % (crate, self.F)
-        self.calls = calls(crate, name)
-
-    uses = Callee.uses
 
     def head(self, here):
-        return HEAD + kind_uses(here, [self.account, self.growth]) + spec_uses(here, self.cites) + kit_uses(here, self.kit)
+        return HEAD + kind_uses(here, [self.account, self.growth]) + spec_uses(here, self.cites)
 
-    # ---- the walk
     def text(self):
+        """proofs/NAME/Proof.antt of its crate: the walk."""
         T, B, F, here = self.account, self.growth, self.F, self.crate
         C, c = self.counter
         G = dashed(c)
@@ -41,16 +35,28 @@ class Counting:
         t += self.head(here)
         t += 'use %s as %s\nuse %s.Symbol as %s-def\nuse %s.Symbol.{name as %s}\nuse %s.Met as %s-thm\n' % (p, G, p, G, p, key, p, G)
         t += 'use %s.Key.{name as %s}\nuse %s as %s\nuse %s.Statement as stated\nuse %s.Code as code\n\n' % (own, self.key, own, F, own, own)
-        names = dict(F=F, G=G, key=key, own=self.key, counted=calls(C, c), T=T.ty, B=B.ty, Trow=T.row, Brow=B.row, Ttl=T.tl, Btl=B.tl, Tsp=T.spells(), Tte=T.tells(), Bsp=B.spells(), Bte=B.tells(), Tmk=T.makes(), Bmk=B.makes(),
+        names = dict(F=F, G=G, key=key, own=self.key, calls=calls(C, c), T=T.ty, B=B.ty, Trow=T.row, Brow=B.row, Ttl=T.tl, Btl=B.tl, Tsp=T.spells(), Tte=T.tells(), Bsp=B.spells(), Bte=B.tells(), Tmk=T.makes(), Bmk=B.makes(),
                      hvals=T.vals('h'), nvals=B.vals('n'), nval=B.val('n'), room=self.room, grown=self.grown, Tis=T.is_('h'), Bis=B.is_('n'), Tty=T.typed('h', '_', 'h-is'), Rty=T.typed('r', '_', 'is'), Bty=B.typed('n', '_', 'n-is'))
         return prune(t + (WALK % names))
 
-    # ---- the call
-    def call_text(self):
-        T, B, F = self.account, self.growth, self.F
+
+class CountingCall:
+    """A call of it. counting: its Counting. here: the caller's crate. kit: the crate of Opening. mod: the file to write."""
+
+    def __init__(self, counting, here, kit, mod):
+        self.counting, self.here, self.kit, self.mod = counting, here, kit, mod
+        self.crate, self.name, self.F, self.key = counting.crate, counting.name, counting.F, counting.key
+        self.calls = calls(self.crate, self.name)
+
+    uses = Callee.uses
+
+    def text(self):
+        """proofs/CALLER/Proof/MOD.antt of the caller's crate."""
+        c, here, F = self.counting, self.here, self.F
+        T, B = c.account, c.growth
         t = '-- The call of `%s` where the borrow is not needed any more: it is passed on at its own lifetime, share and name, and what is had after the call is what says its last value.\n-- Assumes `Given`.\n' % self.name
-        t += self.head(self.here) + 'use %s.%s as %s\n\n' % (proofs(self.here, self.crate), self.name, F)
-        names = dict(F=F, T=T.ty, B=B.ty, Trow=T.row, Brow=B.row, nvals=B.vals('n'), Bis=B.is_('n'), room=self.room, grown=self.grown, Bow=B.owned('n', 'n-is'))
+        t += c.head(here) + kit_uses(here, self.kit) + 'use %s.%s as %s\n\n' % (proofs(here, self.crate), self.name, F)
+        names = dict(F=F, T=T.ty, B=B.ty, Trow=T.row, Brow=B.row, nvals=B.vals('n'), Bis=B.is_('n'), room=c.room, grown=c.grown, Bow=B.owned('n', 'n-is'))
         return prune(t + (CALL % names))
 
 
@@ -136,7 +142,7 @@ unfolding code.routine tablesOf
     entered 𝓤 H (tripleOf 𝓤 H (𝓖 .A) %(F)s.signature (%(F)s.spec 𝓤 H (𝓖 .A) (𝓜 .mem) (𝓡 .run)))
     (tables 𝓤 H 𝓜 𝓡 code.env .C) (tables 𝓤 H 𝓜 𝓡 code.env .Λ) %(own)s code.function (code.unfolded 𝓤 H 𝓜 𝓡)
     (%(F)s-meets 𝓤 H (𝓖 .A) (givenOf 𝓤 H 𝓜 𝓖) (𝓜 .mem) (𝓡 .run) (tablesOf 𝓤 H 𝓜 (tables 𝓤 H 𝓜 𝓡 code.env))
-    (cited 𝓤 H (Counted 𝓤 H (𝓖 .A) (𝓜 .mem) (𝓡 .run)) 𝓜 𝓡 code.env %(key)s %(G)s-def.routine %(counted)s (%(G)s-thm.met 𝓤 H 𝓜 𝓖 𝓡)))
+    (cited 𝓤 H (Counted 𝓤 H (𝓖 .A) (𝓜 .mem) (𝓡 .run)) 𝓜 𝓡 code.env %(key)s %(G)s-def.routine %(calls)s (%(G)s-thm.met 𝓤 H 𝓜 𝓖 𝓡)))
 '''
 
 CALL = '''module _ {M : Type 1} (𝓤 : URA M) (H : Heap 𝓤) (A : Atoms 𝓤) (mem : Memory → SProp 𝓤) (run″ : Routine → Fun 𝓤) where

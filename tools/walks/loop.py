@@ -27,7 +27,7 @@ class Loop:
     arms: one, or two by the flag p.FLAG; each with
         callee, list, index (p's number), none (what getD has outside), args, is, ready, next (the stage after it), inv, falls, within,
         and of two: name, body (its MIR).
-    counting: None, or dict(by=Counting, growth, room, and index or made, made_ready): what is counted and that it fits; it is p's field of
+    counting: None, or dict(by=CountingCall, growth, room, and index or made, made_ready): what is counted and that it fits; it is p's field of
         that number, or what the Plain callee made returns for p.
     last: the last value of the lent struct. done: what the `ensures` says at the stage s. done_is: that it does at the turn x.
     inv_params, inv: the parameters of the invariant, and what `Inv` and `μ` are applied to.
@@ -225,7 +225,7 @@ class Loop:
         t += '-- Each buffer is opened at the start and closed at the end; in between the walk has its memory, which it lends to each callee. A list of records is looked into at each turn. The loop goes by `proofs/Loop.antt`.\n'
         t += '-- The context is [%s; _0; …; _%d; that the locals die]. Assumes nothing.\n' % ('; '.join(self.front), self.count - 1)
         t += ''.join('mod %s\n' % c.mod for c in self.callees)
-        t += HEAD + kind_uses(here, [k for n, k in self.plain + self.refs + self.lists] + [self.carried, self.result] + ([self.counting['by'].growth] if self.counting else []))
+        t += HEAD + kind_uses(here, [k for n, k in self.plain + self.refs + self.lists] + [self.carried, self.result] + ([self.counting['by'].counting.growth] if self.counting else []))
         t += spec_uses(here, self.cites) + ''.join('use %s.%s.{%s}\n' % (proofs(here, c), m, ', '.join(ns)) for c, m, ns in self.laws) + kit_uses(here, self.kit)
         for c in self.callees:
             t += 'use %s.Proof.%s as %s\n' % (own, c.mod, c.mod) + c.uses()
@@ -432,7 +432,7 @@ class Loop:
         t += I + 'returns ! (look ! %d refl) $ leave-all ! E (%s) (done !)%s\n' % (self.pos(cx, 0), self.slots('x', extra), ')' * par)
         t += '        where\n          end-is : %s\n          end-is = %s\n' % (R.is_(out, '(%s ∷ [])' % R.val(out)), self.field_is('x', self.answer_at))
         if self.counting and not self.made:
-            k, g = self.counting['by'].growth, self.counting['growth']
+            k, g = self.counting['by'].counting.growth, self.counting['growth']
             t += '\n          growth-is : %s\n          growth-is = %s\n' % (k.is_(g), self.field_is('x', self.counting['index']))
         return t + '\n'
 

@@ -112,11 +112,14 @@ class Slice:
 class Stage:
     """The record of what the loop carries and of the buffers between two turns.
 
-    name, make: the type and its constructor, the carried struct first and then the buffers in the callees' order.
-    carried: the field of the carried struct. where: the path from the record to each buffer."""
+    name: the type. make: its constructor, the carried struct first and then the buffers in the callees' order, or a text with {} for each of these, as
+    'runStage {} (tables {} {}) {}'. carried: the field of the carried struct. where: the path from the record to each buffer."""
 
     def __init__(self, name, make, carried, where):
         self.name, self.make, self.carried, self.where = name, make, carried, where
+
+    def made(self, p, buffers):
+        return self.make.format(p, *buffers) if '{}' in self.make else '%s %s %s' % (self.make, p, ' '.join(buffers))
 
     def of(self, x, buffer):
         return '(%s %s)' % (x, self.where[buffer])

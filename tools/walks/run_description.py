@@ -7,7 +7,7 @@ import sys
 
 from parts import Kind, Slice, Stage
 from call import Callee, Plain
-from counting import Counting
+from counting import Counting, CountingCall
 from loop import Loop
 
 ROOT = sys.argv[1] if len(sys.argv) > 1 else os.path.dirname(os.path.dirname(os.path.dirname(os.path.abspath(__file__))))
@@ -31,7 +31,8 @@ begin = Callee(HERE, KIT, 'run_steps', 'begin', 'Begin', [('setup', Setup)] + sl
                'begun setup %s account count values' % lent, None, [TABLES_SPEC, ('run_steps', 'Steps', ['begun'])])
 turn = Callee(HERE, KIT, 'run_steps', 'turn', 'Turn', [('setup', Setup)] + slices + [('p', Progress), ('request', Request)], Progress, 'mut',
               'turned setup %s request' % here, 'Ready setup %s' % here, [('run_steps', 'Steps', ['Stage', 'stage', 'Ready', 'turned'])], stage)
-charge = Counting(HERE, KIT, HERE, 'charge', 'Charge', (HERE, 'counted'), Account, Account, 'GrowthFits', 'grown', [(HERE, 'Outcomes', ['grown', 'GrowthFits'])])
+charge = Counting(HERE, 'charge', (HERE, 'counted'), Account, Account, 'GrowthFits', 'grown', [(HERE, 'Outcomes', ['grown', 'GrowthFits'])])
+charge_call = CountingCall(charge, HERE, KIT, 'Charge')
 growth = Plain(HERE, HERE, 'growth', 'Growth', ('p', Progress), Account, 'growthOf p', 'p .answer .taken < 2 ^ 32', [(HERE, 'Outcomes', ['growthOf'])])
 
 inv = 'setup %s account requests values' % lent
@@ -46,7 +47,7 @@ run = Loop(
     inv_start='inv-start %s (small-fields account-is)' % inv,
     arms=[dict(callee=turn, list='requests', index='(x .at .progress .answer .taken)', none='no-request', args={'request': 'e'}, **{'is': {'request': 'e-is'}},
                ready='(x .inv .goes go .ready)', next='turned setup (x .at) e', inv='inv-turn %s go' % at_turn, falls='inv-falls %s go' % at_turn, within='inv-within %s go' % at_turn)],
-    counting=dict(by=charge, made=growth, made_ready='(inv-count %s)' % at_turn, growth='(growthOf (x .at .progress))', room='(inv-room %s)' % at_turn),
+    counting=dict(by=charge_call, made=growth, made_ready='(inv-count %s)' % at_turn, growth='(growthOf (x .at .progress))', room='(inv-room %s)' % at_turn),
     last='(grown account (growthOf (s .progress)))',
     done='outcome (s .progress .answer) (s .tables) (grown account (growthOf (s .progress))) (s .values) ≡ ran setup %s account requests values' % lent,
     done_is='inv-end %s stopped' % at_turn,
@@ -68,5 +69,5 @@ if __name__ == '__main__':
     write('run/Proof/Begin.antt', begin.text())
     write('run/Proof/Turn.antt', turn.text())
     write('run/Proof/Growth.antt', growth.text())
-    write('run/Proof/Charge.antt', charge.call_text())
+    write('run/Proof/Charge.antt', charge_call.text())
     write('run/Proof.antt', run.text())
