@@ -4,7 +4,10 @@ use protocol::Bill;
 use protocol::RunAnswer;
 use protocol::Setup;
 ghost use mathlib.Core.Path.{_≡_};
+ghost use mathlib.Core.Bool.{false, cond};
+ghost use lib.Dec.{ltb, eqb};
 ghost use Prim.Native.Nat.{_*_, _≤_, _<_, _^_};
+ghost use Rattle.protocol.specs.Refusals.{noRefusal};
 ghost use Rattle.protocol.specs.Board.{Fits};
 ghost use Rattle.protocol.specs.Accounts.{plus, possible};
 ghost use Rattle.run_progress.specs.Progress.{Sums, begun, stopped, advanced, grown, GrowthFits, growthOf};
@@ -51,33 +54,33 @@ pub fn is_possible(setup: Setup, account: Account) -> bool
     account.update <= account.requests
 }
 
+// Whether a run of `count` requests goes on after a refusal number or 0.
+fn goes_on(refusal: u32, count: usize) -> bool
+    ensures { λ r. ⌜ r ≡ cond (eqb refusal noRefusal) (ltb 0 count) false ⌝ }
+{
+    if refusal != protocol::NO_REFUSAL {
+        return false;
+    }
+    0 < count
+}
+
 // A run of `count` requests before its first one, refused by `refusal` or by 0.
 pub fn begin(refusal: u32, account: Account, count: usize) -> Progress
     ensures { λ r. ⌜ r ≡ begun refusal account count ⌝ }
 {
-    let bill = Bill {
-        fetch: 0,
-        write_back: 0,
-        update: 0,
-    };
-    let answer = RunAnswer {
-        taken: 0,
-        refusal: refusal,
-        place: 0,
-    };
-    if refusal != protocol::NO_REFUSAL {
-        return Progress {
-            going: false,
-            account: account,
-            bill: bill,
-            answer: answer,
-        };
-    }
     Progress {
-        going: 0 < count,
+        going: goes_on(refusal, count),
         account: account,
-        bill: bill,
-        answer: answer,
+        bill: Bill {
+            fetch: 0,
+            write_back: 0,
+            update: 0,
+        },
+        answer: RunAnswer {
+            taken: 0,
+            refusal: refusal,
+            place: 0,
+        },
     }
 }
 

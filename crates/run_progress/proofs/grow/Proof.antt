@@ -4,20 +4,8 @@ use borrow.Author.Needs.{needs}
 use Rattle.run_progress.proofs.grow.Statement.{statement}
 use Rattle.run_progress.proofs.grow.Tie as tie
 
-add-t3 : tie.Need-add-t3
-add-t3 c = search needs
-
-add-t4 : tie.Need-add-t4
-add-t4 c = search needs
-
-add-t5 : tie.Need-add-t5
-add-t5 c = search needs
-
-add-t6 : tie.Need-add-t6
-add-t6 c = search needs
-
 returns : tie.Need-returns
 returns c = refl
 
 pub grow-spec : {M : Type 1} → statement M
-grow-spec = tie.close (tie.spec add-t3 add-t4 add-t5 add-t6 returns)
+grow-spec = tie.close (tie.spec (λ c. search needs) (λ c. search needs) (λ c. search needs) (λ c. search needs) returns)

@@ -4,11 +4,8 @@ use borrow.Author.Needs.{needs}
 use Rattle.run_progress.proofs.growth.Statement.{statement}
 use Rattle.run_progress.proofs.growth.Tie as tie
 
-cast-t4 : tie.Need-cast-t4
-cast-t4 c = search needs
-
 returns : tie.Need-returns
 returns c = refl
 
 pub growth-spec : {M : Type 1} → statement M
-growth-spec = tie.close (tie.spec cast-t4 returns)
+growth-spec = tie.close (tie.spec (λ c. search needs) returns)

@@ -7,8 +7,5 @@ use Rattle.run_progress.proofs.most_cycles.Tie as tie
 mul-result : tie.Need-mul-result
 mul-result c = omega (arith, mul-le-mul-right (c .args .requests) (c .pre))
 
-returns : tie.Need-returns
-returns c = search needs
-
 pub most-cycles-spec : {M : Type 1} → statement M
-most-cycles-spec = tie.close (tie.spec mul-result returns)
+most-cycles-spec = tie.close (tie.spec mul-result (λ c. search needs))

@@ -1,11 +1,15 @@
-use Rattle.run_steps.specs.Steps.{begun}
+-- What refuses the run, and what begins with that number.
+use mathlib.Core.Path.{ap, _∙_}
 use borrow.Author.Needs.{needs}
+use Rattle.run_progress.specs.Progress.{begun}
 use Rattle.run_steps.proofs.begin.Statement.{statement}
 use Rattle.run_steps.proofs.begin.Tie as tie
 
 returns : tie.Need-returns
-unfolding begun
-returns c = rw (c .goes-on .ensures, c .before .run-refusal .ensures)
+returns c =
+    let refused = c .before in
+    let a = refused .before .before .args in
+    c .begin .ensures ∙ ap (λ n. begun n (a .account) (a .count)) (refused .run-refusal .ensures)
 
 pub begin-spec : {M : Type 1} → statement M
 begin-spec = tie.close (tie.spec (λ c κs. search needs) (λ c κs. search needs) returns)

@@ -1,6 +1,6 @@
 use borrow.Author.Tests.{eq-eqb, ne-eqb}
-use Rattle.run_steps.proofs.goes_on.Statement.{statement}
-use Rattle.run_steps.proofs.goes_on.Tie as tie
+use Rattle.run_progress.proofs.goes_on.Statement.{statement}
+use Rattle.run_progress.proofs.goes_on.Tie as tie
 
 returns : tie.Need-returns
 returns c = rw (ne-eqb _ _ (c .if1 .taken))

@@ -1,9 +1,0 @@
-use mathlib.Core.Path.{refl}
-use Rattle.run_steps.proofs.stop.Statement.{statement}
-use Rattle.run_steps.proofs.stop.Tie as tie
-
-returns : tie.Need-returns
-returns c = refl
-
-pub stop-spec : {M : Type 1} → statement M
-stop-spec = tie.close (tie.spec returns)
