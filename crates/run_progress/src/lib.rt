@@ -150,3 +150,11 @@ pub fn grow(account: Account, growth: Account) -> Account
         update: account.update + growth.update,
     }
 }
+
+// The account is lent: the counting step, where it is.
+pub fn grow_lent(account: &mut Account, growth: Account)
+    requires { ⌜ GrowthFits (now account) growth ⌝ }
+    ensures { λ _. ⌜ now (account .exit) ≡ grown (now (account .entry)) growth ⌝ }
+{
+    *account = grow(*account, growth);
+}
