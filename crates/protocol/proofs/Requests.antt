@@ -95,3 +95,8 @@ bill-by-spent s ok t i (Write v x) =
 pub bill-spent : (s : Setup) → Fits s → (t : Tables) (q : Request) → Spent s 1 (bill s t q)
 unfolding bill
 bill-spent s ok t q = bill-by-spent s ok t (q .processor) (q .operation)
+
+-- ---- what a list of requests has outside
+
+abbrev pub no-request : Request
+no-request = record { processor = 0; operation = Read (record { 0 = 0 }) }

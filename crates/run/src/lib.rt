@@ -3,48 +3,11 @@ use protocol::Account;
 use protocol::Request;
 use protocol::RunAnswer;
 use protocol::Setup;
-use run_steps::Progress;
 ghost use mathlib.Core.Path.{_≡_};
-ghost use Rattle.protocol.specs.Tables.{tables};
-ghost use Rattle.protocol.specs.Runs.{run as ran};
-ghost use Prim.Native.Nat.{_<_, _^_};
-ghost use Rattle.run.specs.Outcomes.{grown, GrowthFits, growthOf, outcome};
-
-// What a run adds to the account so far.
-pub fn growth(p: Progress) -> Account
-    requires { ⌜ p .answer .taken < 2 ^ 32 ⌝ }
-    ensures { λ r. ⌜ r ≡ growthOf p ⌝ }
-{
-    let answer = p.answer;
-    let bill = p.bill;
-    Account {
-        requests: answer.taken as u32,
-        fetch: bill.fetch,
-        write_back: bill.write_back,
-        update: bill.update,
-    }
-}
-
-// The counting step.
-pub fn counted(account: Account, growth: Account) -> Account
-    requires { ⌜ GrowthFits account growth ⌝ }
-    ensures { λ r. ⌜ r ≡ grown account growth ⌝ }
-{
-    Account {
-        requests: account.requests + growth.requests,
-        fetch: account.fetch + growth.fetch,
-        write_back: account.write_back + growth.write_back,
-        update: account.update + growth.update,
-    }
-}
-
-// The account is lent: the counting step, where it is.
-pub fn charge(account: &mut Account, growth: Account)
-    requires { ⌜ GrowthFits (now account) growth ⌝ }
-    ensures { λ _. ⌜ now (account .exit) ≡ grown (now (account .entry)) growth ⌝ }
-{
-    *account = counted(*account, growth);
-}
+ghost use Rattle.protocol.specs.Lent.{before, after};
+ghost use Rattle.protocol.specs.Engines.{run as ran};
+ghost use Rattle.protocol.specs.Runs.{engine};
+ghost use Rattle.run_progress.specs.Progress.{outcome};
 
 // A run: the requests in turn, to the first refused one.
 pub fn run(
@@ -58,8 +21,8 @@ pub fn run(
     requests: &[Request],
     values: &mut [u32],
 ) -> RunAnswer
-    ensures { λ r. ⌜ outcome r (tables (now (blocks .exit)) (now (counters .exit)) (now (marks .exit)) (now (words .exit)) (now (memory .exit))) (now (account .exit)) (now (values .exit))
-        ≡ ran setup (tables (now (blocks .entry)) (now (counters .entry)) (now (marks .entry)) (now (words .entry)) (now (memory .entry))) (now (account .entry)) (now (requests .entry)) (now (values .entry)) ⌝ }
+    ensures { λ r. ⌜ outcome r (after blocks counters marks words memory) (now (account .exit)) (now (values .exit))
+        ≡ ran (engine setup) (before blocks counters marks words memory) (now (account .entry)) (now (requests .entry)) (now (values .entry)) ⌝ }
 {
     let mut p = run_steps::begin(
         setup,
@@ -85,6 +48,6 @@ pub fn run(
             requests[p.answer.taken],
         );
     }
-    charge(account, growth(p));
+    run_progress::grow_lent(account, run_progress::growth(p));
     p.answer
 }
