@@ -3,19 +3,20 @@ use protocol::Block;
 use protocol::Setup;
 ghost use mathlib.Core.Path.{_≡_};
 ghost use mathlib.Core.List.{List};
-ghost use Prim.Native.Nat.{ℕ, _+_, _*_, _<_};
-ghost use lib.ListN.{length};
+ghost use Prim.Native.Nat.{ℕ, _<_};
 ghost use Rattle.protocol.specs.Lists.{at};
-ghost use Rattle.protocol.specs.Board.{Fits, slots};
-ghost use Rattle.protocol.specs.Tables.{tables, Sized};
+ghost use Rattle.protocol.specs.Board.{Fits, slots, lineSlot};
+ghost use Rattle.protocol.specs.Tables.{Sized};
+ghost use Rattle.protocol.specs.Lent.{lent, before};
 ghost use Rattle.protocol.specs.Soundness.{emptyLine, copyLine, soundLine, sound};
+ghost use Rattle.parts.specs.Unlent.{unlent, PerSlot, PerSlotWord};
 
 // Whether the empty line at slot k is all 0.
 fn empty_line_sound(setup: Setup, k: usize, blocks: &[u32], marks: &[u32], words: &[u32]) -> bool
     requires { ⌜ Fits setup ⌝ }
     requires { ⌜ k < slots setup ⌝ }
-    requires { ⌜ (length (now blocks) ≡ slots setup) × (length (now marks) ≡ slots setup) × (length (now words) ≡ slots setup * setup .words) ⌝ }
-    ensures { λ r. ⌜ ((c g : List ℕ) → r ≡ emptyLine setup (tables (now (blocks .entry)) c (now (marks .entry)) (now (words .entry)) g) k) ⌝ }
+    requires { ⌜ PerSlot setup blocks × PerSlot setup marks × PerSlotWord setup words ⌝ }
+    ensures { λ r. ⌜ ((c g : List ℕ) → r ≡ emptyLine setup (before blocks (unlent c) marks words (unlent g)) k) ⌝ }
 {
     if blocks[k] != 0 {
         return false;
@@ -40,9 +41,9 @@ fn copy_sound(
 ) -> bool
     requires { ⌜ Fits setup ⌝ }
     requires { ⌜ k < slots setup ⌝ }
-    requires { ⌜ Sized setup (tables (now blocks) (now counters) (now marks) (now words) (now memory)) ⌝ }
+    requires { ⌜ Sized setup (lent blocks counters marks words memory) ⌝ }
     requires { ⌜ at (now blocks) k < setup .blocks ⌝ }
-    ensures { λ r. ⌜ r ≡ copyLine setup (tables (now (blocks .entry)) (now (counters .entry)) (now (marks .entry)) (now (words .entry)) (now (memory .entry))) i k ⌝ }
+    ensures { λ r. ⌜ r ≡ copyLine setup (before blocks counters marks words memory) i k ⌝ }
 {
     let block = blocks[k];
     if marks[k] == 0 {
@@ -55,7 +56,7 @@ fn copy_sound(
     if counters[k] != setup.fetch_price() {
         return false;
     }
-    setup.processors <= engine_holders::payer(setup, i, Block(block), blocks, counters)
+    !engine_holders::shares(setup, i, Block(block), blocks, counters)
 }
 
 // Whether line l of processor i is sound.
@@ -71,8 +72,8 @@ fn line_sound(
 ) -> bool
     requires { ⌜ Fits setup ⌝ }
     requires { ⌜ (i < setup .processors) × (l < setup .lines) ⌝ }
-    requires { ⌜ Sized setup (tables (now blocks) (now counters) (now marks) (now words) (now memory)) ⌝ }
-    ensures { λ r. ⌜ r ≡ soundLine setup (tables (now (blocks .entry)) (now (counters .entry)) (now (marks .entry)) (now (words .entry)) (now (memory .entry))) i l (i * setup .lines + l) ⌝ }
+    requires { ⌜ Sized setup (lent blocks counters marks words memory) ⌝ }
+    ensures { λ r. ⌜ r ≡ soundLine setup (before blocks counters marks words memory) i l (lineSlot setup i l) ⌝ }
 {
     let k = (i * setup.lines + l) as usize;
     if counters[k] == 0 {
@@ -101,8 +102,8 @@ pub fn is_sound(
     memory: &[u32],
 ) -> bool
     requires { ⌜ Fits setup ⌝ }
-    requires { ⌜ Sized setup (tables (now blocks) (now counters) (now marks) (now words) (now memory)) ⌝ }
-    ensures { λ r. ⌜ r ≡ sound setup (tables (now (blocks .entry)) (now (counters .entry)) (now (marks .entry)) (now (words .entry)) (now (memory .entry))) ⌝ }
+    requires { ⌜ Sized setup (lent blocks counters marks words memory) ⌝ }
+    ensures { λ r. ⌜ r ≡ sound setup (before blocks counters marks words memory) ⌝ }
 {
     let n = setup.processors;
     let m = setup.lines;

@@ -1,21 +1,43 @@
--- What the tests on lengths tell.
+-- What starting does in each of its cases, and what the tests on lengths and of a look tell; by the definitions and setup-fits.
 -- Assumes nothing.
 use Prim.Native.Nat.{ℕ, _*_, _<_}
-use mathlib.Core.Path.{_≡_, refl}
-use mathlib.Core.Bool.{true, _&&_, cond}
+use mathlib.Core.Path.{_≡_, refl, sym}
+use mathlib.Core.Logic.{_≢_}
+use mathlib.Core.Bool.{true, false, _&&_, cond}
 use mathlib.Core.List.{List, []}
 use lib.ListN.{length}
 use lib.Dec.{ltb, eqb}
-use borrow.Author.Tests.{eqb-true, ltb-true}
+use borrow.Author.Tests.{eqb-true, ltb-true, ne-eqb}
 use Rattle.protocol.specs.Lists.{part}
-use Rattle.protocol.specs.Board.{Fits, inRange, slot, slots, wordIndex}
-use Rattle.protocol.specs.Tables.{Tables, sized, copies, holds}
-use Rattle.protocol.specs.Runs.{looked}
+use Rattle.protocol.specs.Refusals.{noRefusal, unless, wrongLength}
+use Rattle.protocol.specs.Board.{Fits, setupRefusal, slot, slots, wordIndex}
+use Rattle.protocol.specs.Tables.{Tables, sized, fresh, directory, holds}
+use Rattle.protocol.specs.Runs.{startRefusal, started, looked}
 use Rattle.protocol.specs.declared.Setup.{Setup}
 use Rattle.protocol.specs.declared.Block.{Block}
 use Rattle.protocol.proofs.Laws.{both-true}
-use Rattle.protocol.proofs.Board.{inRange-fits}
+use Rattle.protocol.proofs.Refusals.{first-refuses}
+use Rattle.protocol.proofs.Board.{setup-fits}
 use Rattle.engine_tables.specs.Entries.{lengthsFit, seen}
+
+-- ---- starting
+
+module _ (s : Setup) (t : Tables) where
+  pub start-refused : setupRefusal s ≢ noRefusal → (setupRefusal s ≡ startRefusal s t) × (t ≡ started s t)
+  unfolding startRefusal started
+  start-refused d =
+      let e = first-refuses (setupRefusal s) (unless (sized s t) wrongLength noRefusal) d in
+      (sym e, sym (rw (e, ne-eqb (setupRefusal s) noRefusal d)))
+
+  pub start-unsized : setupRefusal s ≡ noRefusal → sized s t ≡ false → (wrongLength ≡ startRefusal s t) × (t ≡ started s t)
+  unfolding startRefusal started
+  start-unsized r l = (sym (rw (r, l)), sym (rw (r, l)))
+
+  pub start-filled : setupRefusal s ≡ noRefusal → sized s t ≡ true → (noRefusal ≡ startRefusal s t) × (fresh s ≡ started s t)
+  unfolding startRefusal started
+  start-filled r l = (sym (rw (r, l)), sym (rw (r, l)))
+
+-- ---- tests
 
 pub sized-is : (s : Setup) (t : Tables) → sized s t ≡ lengthsFit s (length (t .blocks)) (length (t .counters)) (length (t .marks)) (length (t .words)) (length (t .memory))
 unfolding sized lengthsFit
@@ -34,11 +56,12 @@ pub record Shown (s : Setup) (n i : ℕ) : Type 0 where
 pub shown : (s : Setup) (b c : List ℕ) (n i : ℕ) (d : Block) → seen s b c n i d ≡ true → Shown s n i
 unfolding seen
 shown s b c n i d e =
+    let r = eqb (setupRefusal s) noRefusal in
     let lb = eqb (length b) (slots s) && eqb (length c) (slots s) in
     let lw = eqb n (slots s * s .words) in
-    let e₁ = both-true (inRange s && (lb && lw) && ltb i (s .processors) && ltb (d .0) (s .blocks)) (holds s (copies b c) i d) e in
-    let e₂ = both-true (inRange s && (lb && lw) && ltb i (s .processors)) (ltb (d .0) (s .blocks)) (e₁ .0) in
-    let e₃ = both-true (inRange s && (lb && lw)) (ltb i (s .processors)) (e₂ .0) in
-    let e₄ = both-true (inRange s) (lb && lw) (e₃ .0) in
+    let e₁ = both-true (r && (lb && lw) && ltb i (s .processors) && ltb (d .0) (s .blocks)) (holds s (directory b c) i d) e in
+    let e₂ = both-true (r && (lb && lw) && ltb i (s .processors)) (ltb (d .0) (s .blocks)) (e₁ .0) in
+    let e₃ = both-true (r && (lb && lw)) (ltb i (s .processors)) (e₂ .0) in
+    let e₄ = both-true r (lb && lw) (e₃ .0) in
     let e₅ = both-true lb lw (e₄ .1) in
-    record { fits = inRange-fits s (e₄ .0); words = eqb-true _ _ (e₅ .1); processor = ltb-true _ _ (e₃ .1) }
+    record { fits = setup-fits s (eqb-true _ _ (e₄ .0)); words = eqb-true _ _ (e₅ .1); processor = ltb-true _ _ (e₃ .1) }

@@ -4,8 +4,9 @@ use mathlib.Core.Bool.{Bool, _&&_}
 use mathlib.Core.List.{List}
 use lib.ListN.{length}
 use lib.Dec.{ltb, eqb}
-use Rattle.protocol.specs.Board.{inRange, slots, variables}
-use Rattle.protocol.specs.Tables.{copies, holds}
+use Rattle.protocol.specs.Refusals.{noRefusal}
+use Rattle.protocol.specs.Board.{setupRefusal, slots, variables}
+use Rattle.protocol.specs.Tables.{directory, holds}
 use Rattle.protocol.specs.declared.Setup.{Setup}
 use Rattle.protocol.specs.declared.Block.{Block}
 
@@ -17,5 +18,6 @@ lengthsFit s b c m w g =
 -- the condition of protocol's looked, where there are n words
 unfoldable pub seen : Setup → List ℕ → List ℕ → ℕ → ℕ → Block → Bool
 seen s blocks counters n i b =
-    inRange s && (eqb (length blocks) (slots s) && eqb (length counters) (slots s) && eqb n (slots s * s .words)) && ltb i (s .processors)
-    && ltb (b .0) (s .blocks) && holds s (copies blocks counters) i b
+    eqb (setupRefusal s) noRefusal
+    && (eqb (length blocks) (slots s) && eqb (length counters) (slots s) && eqb n (slots s * s .words))
+    && ltb i (s .processors) && ltb (b .0) (s .blocks) && holds s (directory blocks counters) i b

@@ -3,7 +3,7 @@ use protocol::Block;
 use protocol::Setup;
 ghost use mathlib.Core.Path.{_≡_};
 ghost use Rattle.protocol.specs.Board.{Fits};
-ghost use Rattle.protocol.specs.Tables.{tables};
+ghost use Rattle.protocol.specs.Lent.{before, after};
 ghost use Rattle.protocol.specs.Runs.{startRefusal, started, looked};
 ghost use Rattle.engine_tables.specs.Entries.{lengthsFit, seen};
 
@@ -43,10 +43,12 @@ pub fn start(
     words: &mut [u32],
     memory: &mut [u32],
 ) -> u32
-    ensures { λ r. ⌜ (r ≡ startRefusal setup (tables (now (blocks .entry)) (now (counters .entry)) (now (marks .entry)) (now (words .entry)) (now (memory .entry)))) × (tables (now (blocks .exit)) (now (counters .exit)) (now (marks .exit)) (now (words .exit)) (now (memory .exit)) ≡ started setup (tables (now (blocks .entry)) (now (counters .entry)) (now (marks .entry)) (now (words .entry)) (now (memory .entry)))) ⌝ }
+    ensures { λ r. ⌜ r ≡ startRefusal setup (before blocks counters marks words memory) ⌝ }
+    ensures { λ _. ⌜ after blocks counters marks words memory ≡ started setup (before blocks counters marks words memory) ⌝ }
 {
-    if !setup.in_range() {
-        return protocol::SETUP_OUT_OF_RANGE;
+    let refusal = setup.refusal();
+    if refusal != protocol::NO_REFUSAL {
+        return refusal;
     }
     if !lengths_fit(
         setup,
@@ -77,7 +79,7 @@ fn sees(
 ) -> bool
     ensures { λ r. ⌜ r ≡ seen setup (now (blocks .entry)) (now (counters .entry)) count processor block ⌝ }
 {
-    if !setup.in_range() {
+    if setup.refusal() != protocol::NO_REFUSAL {
         return false;
     }
     if blocks.len() != setup.slot_count() {
@@ -113,7 +115,7 @@ pub fn look<'a>(
         return &words[0..0];
     }
     let p = setup.words as usize;
-    let a = engine_holders::slot(setup, processor, block) * p;
+    let a = setup.slot(processor, block) * p;
     let e = a + p;
     &words[a..e]
 }

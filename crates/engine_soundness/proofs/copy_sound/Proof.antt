@@ -1,10 +1,10 @@
+-- The mark decides; the rows of the slot and of its block lie within their tables (row-end).
 use mathlib.Core.Path.{sym, _∙_}
 use native.Mathlib.Omega.{arith}
 use borrow.Author.Tests.{eq-eqb, ne-eqb}
 use denote.Ref.{now}
 use Rattle.protocol.specs.Lists.{at}
 use Rattle.protocol.specs.Board.{slots, wordIndex}
-use Rattle.protocol.specs.Rules.{payer}
 use Rattle.protocol.specs.Soundness.{copyLine}
 use Rattle.protocol.proofs.Rows.{row-end}
 use borrow.Author.Needs.{needs}
@@ -42,14 +42,14 @@ unfolding copyLine
 returns-3 c = rw (ne-eqb _ _ (c .before .before .before .before .before .if1 .left), eq-eqb _ _ (c .before .before .before .if2 .left), ne-eqb _ _ (λ e. c .if3 .taken (e ∙ sym (c .before .fetch-price .ensures))))
 
 returns-4 : tie.Need-returns-4
-unfolding copyLine payer
+unfolding copyLine
 returns-4 c =
     let a = c .before .before .before .before .before .before .before .before .before .before .before .before .before .before .before .args in
     rw (
       ne-eqb _ _ (c .before .before .before .before .before .before .before .if1 .left),
       eq-eqb _ _ (c .before .before .before .before .before .if2 .left),
       eq-eqb _ _ (c .before .before .if3 .left ∙ c .before .before .before .fetch-price .ensures),
-      c .before .payer .ensures (now (a .marks)) (now (a .words)) (now (a .memory)),
+      c .before .shares .ensures (now (a .marks)) (now (a .words)) (now (a .memory)),
     )
 
 pub copy-sound-spec : {M : Type 1} → statement M

@@ -1,3 +1,4 @@
+-- Each test as it is made; the row of the slot lies within the words (row-end).
 use native.Mathlib.Omega.{arith}
 use borrow.Author.Tests.{eq-eqb, ne-eqb}
 use Rattle.protocol.specs.Board.{slots, wordIndex}

@@ -1,3 +1,4 @@
+-- Each test as it is made; the line stands at one of the slots (line-slot), so its number does not wrap (few-slots).
 use mathlib.Core.Path.{_≡_}
 use native.Mathlib.Omega.{arith}
 use borrow.Author.Tests.{eq-eqb, ne-eqb, lt-leb, le-leb, lt-ltb, le-ltb}

@@ -1,3 +1,4 @@
+-- Each length as it is tested: the first that differs decides.
 use mathlib.Core.Path.{sym, _∙_}
 use borrow.Author.Tests.{eq-eqb, ne-eqb}
 use Rattle.engine_tables.specs.Entries.{lengthsFit}
@@ -11,19 +12,38 @@ returns c = rw (ne-eqb _ _ (λ e. c .if1 .taken (e ∙ sym (c .before .slot-coun
 
 returns-2 : tie.Need-returns-2
 unfolding lengthsFit
-returns-2 c = rw (eq-eqb _ _ (c .before .before .if1 .left ∙ c .before .before .before .slot-count .ensures), ne-eqb _ _ (λ e. c .if2 .taken (e ∙ sym (c .before .slot-count2 .ensures))))
+returns-2 c =
+    let slot-count′ = c .before .before .before in
+    rw (eq-eqb _ _ (c .before .before .if1 .left ∙ slot-count′ .slot-count .ensures), ne-eqb _ _ (λ e. c .if2 .taken (e ∙ sym (c .before .slot-count2 .ensures))))
 
 returns-3 : tie.Need-returns-3
 unfolding lengthsFit
-returns-3 c = rw (eq-eqb _ _ (c .before .before .before .before .if1 .left ∙ c .before .before .before .before .before .slot-count .ensures), eq-eqb _ _ (c .before .before .if2 .left ∙ c .before .before .before .slot-count2 .ensures), ne-eqb _ _ (λ e. c .if3 .taken (e ∙ sym (c .before .slot-count3 .ensures))))
+returns-3 c =
+    let slot-count2′ = c .before .before .before in
+    let if1′ = slot-count2′ .before in
+    let slot-count′ = if1′ .before in
+    rw (eq-eqb _ _ (if1′ .if1 .left ∙ slot-count′ .slot-count .ensures), eq-eqb _ _ (c .before .before .if2 .left ∙ slot-count2′ .slot-count2 .ensures), ne-eqb _ _ (λ e. c .if3 .taken (e ∙ sym (c .before .slot-count3 .ensures))))
 
 returns-4 : tie.Need-returns-4
 unfolding lengthsFit
-returns-4 c = rw (eq-eqb _ _ (c .before .before .before .before .before .before .if1 .left ∙ c .before .before .before .before .before .before .before .slot-count .ensures), eq-eqb _ _ (c .before .before .before .before .if2 .left ∙ c .before .before .before .before .before .slot-count2 .ensures), eq-eqb _ _ (c .before .before .if3 .left ∙ c .before .before .before .slot-count3 .ensures), ne-eqb _ _ (λ e. c .if4 .taken (e ∙ sym (c .before .word-count .ensures))))
+returns-4 c =
+    let slot-count3′ = c .before .before .before in
+    let if2′ = slot-count3′ .before in
+    let slot-count2′ = if2′ .before in
+    let if1′ = slot-count2′ .before in
+    let slot-count′ = if1′ .before in
+    rw (eq-eqb _ _ (if1′ .if1 .left ∙ slot-count′ .slot-count .ensures), eq-eqb _ _ (if2′ .if2 .left ∙ slot-count2′ .slot-count2 .ensures), eq-eqb _ _ (c .before .before .if3 .left ∙ slot-count3′ .slot-count3 .ensures), ne-eqb _ _ (λ e. c .if4 .taken (e ∙ sym (c .before .word-count .ensures))))
 
 returns-5 : tie.Need-returns-5
 unfolding lengthsFit
-returns-5 c = rw (eq-eqb _ _ (c .before .before .before .before .before .before .before .if1 .left ∙ c .before .before .before .before .before .before .before .before .slot-count .ensures), eq-eqb _ _ (c .before .before .before .before .before .if2 .left ∙ c .before .before .before .before .before .before .slot-count2 .ensures), eq-eqb _ _ (c .before .before .before .if3 .left ∙ c .before .before .before .before .slot-count3 .ensures), eq-eqb _ _ (c .before .if4 .left ∙ c .before .before .word-count .ensures), c .variable-count .ensures)
+returns-5 c =
+    let if3′ = c .before .before .before in
+    let slot-count3′ = if3′ .before in
+    let if2′ = slot-count3′ .before in
+    let slot-count2′ = if2′ .before in
+    let if1′ = slot-count2′ .before in
+    let slot-count′ = if1′ .before in
+    rw (eq-eqb _ _ (if1′ .if1 .left ∙ slot-count′ .slot-count .ensures), eq-eqb _ _ (if2′ .if2 .left ∙ slot-count2′ .slot-count2 .ensures), eq-eqb _ _ (if3′ .if3 .left ∙ slot-count3′ .slot-count3 .ensures), eq-eqb _ _ (c .before .if4 .left ∙ c .before .before .word-count .ensures), c .variable-count .ensures)
 
 pub lengths-fit-spec : {M : Type 1} → statement M
 lengths-fit-spec =

@@ -1,3 +1,4 @@
+-- What `sees` tells (looked-is, shown); the row of the slot lies within the words (row-end).
 use Prim.Native.Nat.{ℕ, _*_}
 use mathlib.Core.Path.{ap}
 use native.Mathlib.Nat.{add-sub-cancel-left, add-zero}
@@ -15,50 +16,63 @@ use Rattle.engine_tables.proofs.look.Tie as tie
 
 returns : tie.Need-returns
 returns c =
-    let a = c .before .before .before .before .before .before .args in
+    let start = c .before .before .before .before .before .before in
+    let a = start .args in
     rw (looked-is (a .setup) (now (a .blocks)) (now (a .counters)) (now (a .words)) (a .processor) (a .block), failed (c .before .before .sees .ensures) (c .before .if1 .taken))
 
 slot-requires : tie.Need-slot-requires
 slot-requires c κs =
-    let a = c .before .before .before .before .before .before .args in
+    let start = c .before .before .before .before .before .before in
+    let a = start .args in
     let v = shown (a .setup) (now (a .blocks)) (now (a .counters)) (length (now (a .words))) (a .processor) (a .block) (passed (c .before .before .sees .ensures) (c .before .if1 .left)) in
     (v .fits, omega (arith, v .processor, v .fits))
 
 mul-a : tie.Need-mul-a
 unfolding wordIndex
 mul-a c =
-    let a = c .before .before .before .before .before .before .before .args in
-    let v = shown (a .setup) (now (a .blocks)) (now (a .counters)) (length (now (a .words))) (a .processor) (a .block) (passed (c .before .before .before .sees .ensures) (c .before .before .if1 .left)) in
+    let sees′ = c .before .before .before in
+    let start = sees′ .before .before .before .before in
+    let a = start .args in
+    let v = shown (a .setup) (now (a .blocks)) (now (a .counters)) (length (now (a .words))) (a .processor) (a .block) (passed (sees′ .sees .ensures) (c .before .before .if1 .left)) in
     omega (arith, row-end (a .setup) (c .slot .result) (slots (a .setup)) (c .slot .ensures .within), v .words)
 
 add-e : tie.Need-add-e
 unfolding wordIndex
 add-e c =
-    let a = c .before .before .before .before .before .before .before .args in
-    let v = shown (a .setup) (now (a .blocks)) (now (a .counters)) (length (now (a .words))) (a .processor) (a .block) (passed (c .before .before .before .sees .ensures) (c .before .before .if1 .left)) in
+    let sees′ = c .before .before .before in
+    let start = sees′ .before .before .before .before in
+    let a = start .args in
+    let v = shown (a .setup) (now (a .blocks)) (now (a .counters)) (length (now (a .words))) (a .processor) (a .block) (passed (sees′ .sees .ensures) (c .before .before .if1 .left)) in
     omega (arith, row-end (a .setup) (c .slot .result) (slots (a .setup)) (c .slot .ensures .within), v .words)
 
 mul-result : tie.Need-mul-result
 unfolding wordIndex
 mul-result c =
-    let a = c .before .before .before .before .before .before .before .args in
-    let v = shown (a .setup) (now (a .blocks)) (now (a .counters)) (length (now (a .words))) (a .processor) (a .block) (passed (c .before .before .before .sees .ensures) (c .before .before .if1 .left)) in
+    let sees′ = c .before .before .before in
+    let start = sees′ .before .before .before .before in
+    let a = start .args in
+    let v = shown (a .setup) (now (a .blocks)) (now (a .counters)) (length (now (a .words))) (a .processor) (a .block) (passed (sees′ .sees .ensures) (c .before .before .if1 .left)) in
     omega (arith, row-end (a .setup) (c .slot .result) (slots (a .setup)) (c .slot .ensures .within), v .words)
 
 part-result-end-2 : tie.Need-part-result-end-2
 unfolding wordIndex
 part-result-end-2 c =
-    let a = c .before .before .before .before .before .before .before .args in
-    let v = shown (a .setup) (now (a .blocks)) (now (a .counters)) (length (now (a .words))) (a .processor) (a .block) (passed (c .before .before .before .sees .ensures) (c .before .before .if1 .left)) in
+    let sees′ = c .before .before .before in
+    let start = sees′ .before .before .before .before in
+    let a = start .args in
+    let v = shown (a .setup) (now (a .blocks)) (now (a .counters)) (length (now (a .words))) (a .processor) (a .block) (passed (sees′ .sees .ensures) (c .before .before .if1 .left)) in
     omega (arith, row-end (a .setup) (c .slot .result) (slots (a .setup)) (c .slot .ensures .within), v .words)
 
 returns-2 : tie.Need-returns-2
 unfolding wordIndex
 returns-2 c =
-    let a = c .before .before .before .before .before .before .before .before .args in
+    let if1′ = c .before .before .before in
+    let sees′ = if1′ .before in
+    let start = sees′ .before .before .before .before in
+    let a = start .args in
     rw (
       looked-is (a .setup) (now (a .blocks)) (now (a .counters)) (now (a .words)) (a .processor) (a .block),
-      passed (c .before .before .before .before .sees .ensures) (c .before .before .before .if1 .left),
+      passed (sees′ .sees .ensures) (if1′ .if1 .left),
       add-sub-cancel-left (c .before .slot .result * a .setup .words) (a .setup .words),
       add-zero,
     )

@@ -1,54 +1,67 @@
-use mathlib.Core.Path.{_∙_}
+-- The cases of starting (start-refused, start-unsized, start-filled): a setup that is not refused fits (setup-fits), and tables of the right lengths,
+-- cleared, are fresh.
+use borrow.Author.Needs.{needs}
+use mathlib.Core.Path.{sym, _∙_}
 use denote.Ref.{now}
 use Rattle.protocol.specs.Tables.{tables, fresh}
-use Rattle.protocol.specs.Runs.{startRefusal, started}
-use Rattle.protocol.proofs.Board.{inRange-fits}
+use Rattle.protocol.proofs.Board.{setup-fits}
 use Rattle.protocol.proofs.Checked.{passed-sized}
 use Rattle.protocol.proofs.Laws.{failed, passed}
-use Rattle.engine_tables.proofs.Tests.{sized-is}
-use borrow.Author.Needs.{needs}
+use Rattle.engine_tables.proofs.Tests.{start-refused, start-unsized, start-filled, sized-is}
 use Rattle.engine_tables.proofs.start.Statement.{statement}
 use Rattle.engine_tables.proofs.start.Tie as tie
 
 returns : tie.Need-returns
-unfolding startRefusal started
-returns c = let r = failed (c .before .in-range .ensures) (c .if1 .taken) in (rw r, rw r)
+returns c =
+    let start = c .before .before .before .before .before .before .before in
+    let a = start .args in
+    let r = start-refused (a .setup) (tables (now (a .blocks)) (now (a .counters)) (now (a .marks)) (now (a .words)) (now (a .memory))) (λ e. c .if1 .taken (c .before .refusal .ensures ∙ e)) in
+    (c .before .refusal .ensures ∙ r .0, r .1)
 
 lengths-fit-requires : tie.Need-lengths-fit-requires
-lengths-fit-requires c κs = inRange-fits (c .before .before .before .before .before .before .before .args .setup) (passed (c .before .in-range .ensures) (c .if1 .left))
+lengths-fit-requires c κs =
+    let start = c .before .before .before .before .before .before .before in
+    setup-fits (start .args .setup) (sym (c .before .refusal .ensures) ∙ c .if1 .left)
 
 returns-2 : tie.Need-returns-2
-unfolding startRefusal started
 returns-2 c =
-    let a = c .before .before .before .before .before .before .before .before .before .args in
-    let t = (tables (now (a .blocks)) (now (a .counters)) (now (a .marks)) (now (a .words)) (now (a .memory))) in
-    let r = passed (c .before .before .before .in-range .ensures) (c .before .before .if1 .left) in
-    let l = sized-is (a .setup) t ∙ failed (c .before .lengths-fit .ensures) (c .if2 .taken) in
-    (rw (r, l), rw (r, l))
+    let refusal′ = c .before .before .before in
+    let start = refusal′ .before .before .before .before .before .before in
+    let a = start .args in
+    let t = tables (now (a .blocks)) (now (a .counters)) (now (a .marks)) (now (a .words)) (now (a .memory)) in
+    start-unsized (a .setup) t (sym (refusal′ .refusal .ensures) ∙ c .before .before .if1 .left) (sized-is (a .setup) t ∙ failed (c .before .lengths-fit .ensures) (c .if2 .taken))
 
 returns-3 : tie.Need-returns-3
-unfolding startRefusal started fresh
+unfolding fresh
 returns-3 c =
-    let a = c .before .before .before .before .before .before .before .before .before .before .before .before .before .before .before .before .before .before .before .before .before .before .before .before .before .before .before .before .before .args in
-    let t = (tables (now (a .blocks)) (now (a .counters)) (now (a .marks)) (now (a .words)) (now (a .memory))) in
-    let r = passed (c .before .before .before .before .before .before .before .before .before .before .before .before .before .before .before .before .before .before .before .before .before .before .before .in-range .ensures) (c .before .before .before .before .before .before .before .before .before .before .before .before .before .before .before .before .before .before .before .before .before .before .if1 .left) in
-    let l = sized-is (a .setup) t ∙ passed (c .before .before .before .before .before .before .before .before .before .before .before .before .before .before .before .before .before .before .before .before .before .lengths-fit .ensures) (c .before .before .before .before .before .before .before .before .before .before .before .before .before .before .before .before .before .before .before .before .if2 .left) in
-    let z = passed-sized (a .setup) t l in (
-      rw (r, l),
+    let clear4′ = c .before .before .before .before .before .before in
+    let clear3′ = clear4′ .before .before .before .before in
+    let clear2′ = clear3′ .before .before .before .before in
+    let clear′ = clear2′ .before .before .before .before in
+    let if2′ = clear′ .before .before in
+    let lengths-fit′ = if2′ .before in
+    let if1′ = lengths-fit′ .before in
+    let refusal′ = if1′ .before in
+    let start = refusal′ .before .before .before .before .before .before in
+    let a = start .args in
+    let t = tables (now (a .blocks)) (now (a .counters)) (now (a .marks)) (now (a .words)) (now (a .memory)) in
+    let l = sized-is (a .setup) t ∙ passed (lengths-fit′ .lengths-fit .ensures) (if2′ .if2 .left) in
+    let z = passed-sized (a .setup) t l in
+    let r = start-filled (a .setup) t (sym (refusal′ .refusal .ensures) ∙ if1′ .if1 .left) l in (
+      r .0,
       rw (
-        r,
-        l,
-        c .before .before .before .before .before .before .before .before .before .before .before .before .before .before .before .before .before .before .clear .ensures,
-        c .before .before .before .before .before .before .before .before .before .before .before .before .before .before .clear2 .ensures,
-        c .before .before .before .before .before .before .before .before .before .before .clear3 .ensures,
-        c .before .before .before .before .before .before .clear4 .ensures,
+        clear′ .clear .ensures,
+        clear2′ .clear2 .ensures,
+        clear3′ .clear3 .ensures,
+        clear4′ .clear4 .ensures,
         c .before .before .clear5 .ensures,
         z .blocks,
         z .counters,
         z .marks,
         z .words,
         z .memory,
-      ),
+      )
+          (r .1),
     )
 
 pub start-spec : {M : Type 1} → statement M
