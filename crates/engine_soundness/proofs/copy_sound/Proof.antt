@@ -14,20 +14,23 @@ use Rattle.engine_soundness.proofs.copy_sound.Tie as tie
 mul-same-part : tie.Need-mul-same-part
 unfolding wordIndex
 mul-same-part c =
-    let a = c .before .before .before .before .before .before .before .before .before .args in
-    omega (arith, row-end (a .setup) (a .k) (slots (a .setup)) (c .before .before .before .before .before .before .before .before .before .pre .1 .0))
+    let start = c .before .before .before .before .before .before .before .before .before in
+    let a = start .args in
+    omega (arith, row-end (a .setup) (a .k) (slots (a .setup)) (start .pre .1 .0))
 
 mul-same-part-2 : tie.Need-mul-same-part-2
 unfolding wordIndex
 mul-same-part-2 c =
-    let a = c .before .before .before .before .before .before .before .before .before .args in
-    omega (arith, row-end (a .setup) (at (now (a .blocks)) (a .k)) (a .setup .blocks) (c .before .before .before .before .before .before .before .before .before .pre .1 .1 .1))
+    let start = c .before .before .before .before .before .before .before .before .before in
+    let a = start .args in
+    omega (arith, row-end (a .setup) (at (now (a .blocks)) (a .k)) (a .setup .blocks) (start .pre .1 .1 .1))
 
 same-part-requires : tie.Need-same-part-requires
 unfolding wordIndex
 same-part-requires c κs =
-    let a = c .before .before .before .before .before .before .before .before .before .args in
-    (omega (arith, row-end (a .setup) (a .k) (slots (a .setup)) (c .before .before .before .before .before .before .before .before .before .pre .1 .0)), omega (arith, row-end (a .setup) (at (now (a .blocks)) (a .k)) (a .setup .blocks) (c .before .before .before .before .before .before .before .before .before .pre .1 .1 .1)))
+    let start = c .before .before .before .before .before .before .before .before .before in
+    let a = start .args in
+    (omega (arith, row-end (a .setup) (a .k) (slots (a .setup)) (start .pre .1 .0)), omega (arith, row-end (a .setup) (at (now (a .blocks)) (a .k)) (a .setup .blocks) (start .pre .1 .1 .1)))
 
 returns : tie.Need-returns
 unfolding copyLine wordIndex
@@ -39,17 +42,23 @@ returns-2 c = rw (ne-eqb _ _ (c .before .before .if1 .left), ne-eqb _ _ (c .if2 
 
 returns-3 : tie.Need-returns-3
 unfolding copyLine
-returns-3 c = rw (ne-eqb _ _ (c .before .before .before .before .before .if1 .left), eq-eqb _ _ (c .before .before .before .if2 .left), ne-eqb _ _ (λ e. c .if3 .taken (e ∙ sym (c .before .fetch-price .ensures))))
+returns-3 c =
+    let if2′ = c .before .before .before in
+    let if1′ = if2′ .before .before in
+    rw (ne-eqb _ _ (if1′ .if1 .left), eq-eqb _ _ (if2′ .if2 .left), ne-eqb _ _ (λ e. c .if3 .taken (e ∙ sym (c .before .fetch-price .ensures))))
 
 returns-4 : tie.Need-returns-4
 unfolding copyLine
 returns-4 c =
-    let a = c .before .before .before .before .before .before .before .before .before .before .before .before .before .before .before .args in
+    let if2′ = c .before .before .before .before in
+    let if1′ = if2′ .before .before in
+    let start = if1′ .before .before .before .before .before .before .before .before in
+    let a = start .args in
     rw (
-      ne-eqb _ _ (c .before .before .before .before .before .before .before .if1 .left),
-      eq-eqb _ _ (c .before .before .before .before .before .if2 .left),
-      eq-eqb _ _ (c .before .before .if3 .left ∙ c .before .before .before .fetch-price .ensures),
-      c .before .shares .ensures (now (a .marks)) (now (a .words)) (now (a .memory)),
+      ne-eqb _ _ (if1′ .if1 .left),
+      eq-eqb _ _ (if2′ .if2 .left),
+      eq-eqb _ _ (c .before .if3 .left ∙ c .before .before .fetch-price .ensures),
+      c .shares .ensures (now (a .marks)) (now (a .words)) (now (a .memory)),
     )
 
 pub copy-sound-spec : {M : Type 1} → statement M

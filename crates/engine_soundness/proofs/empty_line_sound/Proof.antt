@@ -19,18 +19,22 @@ returns-2 c = λ _ _. rw (eq-eqb _ _ (c .before .before .if1 .left), ne-eqb _ _ 
 mul-zero-part : tie.Need-mul-zero-part
 unfolding wordIndex
 mul-zero-part c =
-    let a = c .before .before .before .before .before .before .before .before .args in
-    omega (arith, row-end (a .setup) (a .k) (slots (a .setup)) (c .before .before .before .before .before .before .before .before .pre .1 .0))
+    let start = c .before .before .before .before .before .before .before .before in
+    let a = start .args in
+    omega (arith, row-end (a .setup) (a .k) (slots (a .setup)) (start .pre .1 .0))
 
 zero-part-requires : tie.Need-zero-part-requires
 unfolding wordIndex
 zero-part-requires c κs =
-    let a = c .before .before .before .before .before .before .before .before .args in
-    omega (arith, row-end (a .setup) (a .k) (slots (a .setup)) (c .before .before .before .before .before .before .before .before .pre .1 .0))
+    let start = c .before .before .before .before .before .before .before .before in
+    let a = start .args in
+    omega (arith, row-end (a .setup) (a .k) (slots (a .setup)) (start .pre .1 .0))
 
 returns-3 : tie.Need-returns-3
 unfolding emptyLine wordIndex
-returns-3 c = λ _ _. rw (eq-eqb _ _ (c .before .before .before .before .if1 .left), eq-eqb _ _ (c .before .before .if2 .left)) (c .zero-part .ensures)
+returns-3 c =
+    let if1′ = c .before .before .before .before in
+    λ _ _. rw (eq-eqb _ _ (if1′ .if1 .left), eq-eqb _ _ (c .before .before .if2 .left)) (c .zero-part .ensures)
 
 pub empty-line-sound-spec : {M : Type 1} → statement M
 empty-line-sound-spec =

@@ -36,20 +36,26 @@ loop-holds c = (omega arith, refl)
 
 loop-again : tie.Need-loop-again Inv-loop μ-loop Inv-scan μ-scan
 loop-again c =
-    let a = c .before .before .before .before .before .before .before .before .before .before .before .args in
+    let loop′ = c .before .before .before in
+    let scan′ = loop′ .before .before in
+    let start = scan′ .before .before .before .before .before .before in
+    let a = start .args in
     let t = (tables (now (a .blocks)) (now (a .counters)) (now (a .marks)) (now (a .words)) (now (a .memory))) in
-    (omega arith, all-more (lineTest (a .setup) t (c .before .before .before .before .before .scan .i)) (c .before .before .before .loop .l) (c .before .before .before .loop .inv .1) (passed (c .before .line-sound .ensures) (c .if1 .left)))
+    (omega arith, all-more (lineTest (a .setup) t (scan′ .scan .i)) (loop′ .loop .l) (loop′ .loop .inv .1) (passed (c .before .line-sound .ensures) (c .if1 .left)))
 
 scan-again : tie.Need-scan-again Inv-loop μ-loop Inv-scan μ-scan
 scan-again c =
-    let a = c .before .before .before .before .before .before .before .before .before .args in
+    let scan′ = c .before .before .before in
+    let start = scan′ .before .before .before .before .before .before in
+    let a = start .args in
     let t = (tables (now (a .blocks)) (now (a .counters)) (now (a .marks)) (now (a .words)) (now (a .memory))) in
     let e : c .before .loop .l ≡ a .setup .lines = omega arith in
-    (omega arith, all-more (cacheTest (a .setup) t) (c .before .before .before .scan .i) (c .before .before .before .scan .inv .1) (rw e at (c .before .loop .inv .1)))
+    (omega arith, all-more (cacheTest (a .setup) t) (scan′ .scan .i) (scan′ .scan .inv .1) (rw e at (c .before .loop .inv .1)))
 
 returns : tie.Need-returns Inv-loop μ-loop Inv-scan μ-scan
 returns c =
-    let a = c .before .before .before .before .before .before .before .args in
+    let start = c .before .before .before .before .before .before .before in
+    let a = start .args in
     let s = a .setup in
     let t = (tables (now (a .blocks)) (now (a .counters)) (now (a .marks)) (now (a .words)) (now (a .memory))) in
     let n = s .processors in
