@@ -7,9 +7,9 @@ use Rattle.run_steps.proofs.begin.Tie as tie
 
 returns : tie.Need-returns
 returns c =
-    let refused = c .before in
-    let a = refused .before .before .args in
-    c .begin .ensures ∙ ap (λ n. begun n (a .account) (a .count)) (refused .run-refusal .ensures)
+    let run-refusal′ = c .before in
+    let a = run-refusal′ .before .before .before .before .before .before .before .args in
+    c .begin .ensures ∙ ap (λ n. begun n (a .account) (a .count)) (run-refusal′ .run-refusal .ensures)
 
 pub begin-spec : {M : Type 1} → statement M
 begin-spec = tie.close (tie.spec (λ c κs. search needs) (λ c κs. search needs) returns)

@@ -1,92 +1,131 @@
-use mathlib.Core.Path.{_∙_}
+-- The first condition met gives the number: each test by what it passed or failed, and the setup fits once it is not refused (setup-fits).
+use mathlib.Core.Path.{sym, _∙_}
+use borrow.Author.Needs.{needs}
 use borrow.Author.Tests.{eq-eqb, ne-eqb}
 use denote.Ref.{now}
 use Rattle.protocol.specs.Tables.{tables}
 use Rattle.protocol.specs.Runs.{runRefusal}
-use Rattle.protocol.proofs.Board.{inRange-fits}
+use Rattle.protocol.proofs.Board.{setup-fits}
 use Rattle.protocol.proofs.Checked.{passed-sized}
 use Rattle.protocol.proofs.Laws.{failed, passed}
+use Rattle.protocol.proofs.Refusals.{code-refuses}
 use Rattle.engine_tables.proofs.Tests.{sized-is}
-use borrow.Author.Needs.{needs}
 use Rattle.run_steps.proofs.run_refusal.Statement.{statement}
 use Rattle.run_steps.proofs.run_refusal.Tie as tie
 
 returns : tie.Need-returns
 unfolding runRefusal
-returns c = rw (failed (c .before .in-range .ensures) (c .if1 .taken))
+returns c =
+    let refusal′ = c .before in
+    rw (code-refuses _ _ (refusal′ .refusal .ensures) (c .if1 .taken)) (refusal′ .refusal .ensures)
 
 lengths-fit-requires : tie.Need-lengths-fit-requires
-lengths-fit-requires c κs = inRange-fits (c .before .before .before .before .before .before .before .before .args .setup) (passed (c .before .in-range .ensures) (c .if1 .left))
+lengths-fit-requires c κs =
+    let refusal′ = c .before in
+    let start = refusal′ .before .before .before .before .before .before .before in
+    setup-fits (start .args .setup) (sym (refusal′ .refusal .ensures) ∙ c .if1 .left)
 
 returns-2 : tie.Need-returns-2
 unfolding runRefusal
 returns-2 c =
-    let a = c .before .before .before .before .before .before .before .before .before .before .args in
-    let t = (tables (now (a .blocks)) (now (a .counters)) (now (a .marks)) (now (a .words)) (now (a .memory))) in
-    let l = sized-is (a .setup) t ∙ failed (c .before .lengths-fit .ensures) (c .if2 .taken) in
-    rw (passed (c .before .before .before .in-range .ensures) (c .before .before .if1 .left), l)
+    let lengths-fit′ = c .before in
+    let if1′ = lengths-fit′ .before in
+    let refusal′ = if1′ .before in
+    let a = refusal′ .before .before .before .before .before .before .before .args in
+    let t = tables (now (a .blocks)) (now (a .counters)) (now (a .marks)) (now (a .words)) (now (a .memory)) in
+    rw (sym (refusal′ .refusal .ensures) ∙ if1′ .if1 .left, sized-is (a .setup) t ∙ failed (lengths-fit′ .lengths-fit .ensures) (c .if2 .taken))
 
 returns-3 : tie.Need-returns-3
 unfolding runRefusal
 returns-3 c =
-    let a = c .before .before .before .before .before .before .before .before .before .before .before .args in
-    let t = (tables (now (a .blocks)) (now (a .counters)) (now (a .marks)) (now (a .words)) (now (a .memory))) in
-    let l = sized-is (a .setup) t ∙ passed (c .before .before .lengths-fit .ensures) (c .before .if2 .left) in
+    let if2′ = c .before in
+    let lengths-fit′ = if2′ .before in
+    let if1′ = lengths-fit′ .before in
+    let refusal′ = if1′ .before in
+    let a = refusal′ .before .before .before .before .before .before .before .args in
+    let t = tables (now (a .blocks)) (now (a .counters)) (now (a .marks)) (now (a .words)) (now (a .memory)) in
     rw (
-      passed (c .before .before .before .before .in-range .ensures) (c .before .before .before .if1 .left),
-      l,
+      sym (refusal′ .refusal .ensures) ∙ if1′ .if1 .left,
+      sized-is (a .setup) t ∙ passed (lengths-fit′ .lengths-fit .ensures) (if2′ .if2 .left),
       ne-eqb _ _ (c .if3 .taken),
     )
 
 is-sound-requires : tie.Need-is-sound-requires
 is-sound-requires c κs =
-    let a = c .before .before .before .before .before .before .before .before .before .before .before .args in
-    let t = (tables (now (a .blocks)) (now (a .counters)) (now (a .marks)) (now (a .words)) (now (a .memory))) in
-    let l = sized-is (a .setup) t ∙ passed (c .before .before .lengths-fit .ensures) (c .before .if2 .left) in
-    (inRange-fits (a .setup) (passed (c .before .before .before .before .in-range .ensures) (c .before .before .before .if1 .left)), passed-sized (a .setup) t l)
+    let if2′ = c .before in
+    let lengths-fit′ = if2′ .before in
+    let if1′ = lengths-fit′ .before in
+    let refusal′ = if1′ .before in
+    let a = refusal′ .before .before .before .before .before .before .before .args in
+    let t = tables (now (a .blocks)) (now (a .counters)) (now (a .marks)) (now (a .words)) (now (a .memory)) in
+    let l = sized-is (a .setup) t ∙ passed (lengths-fit′ .lengths-fit .ensures) (if2′ .if2 .left) in
+    (setup-fits (a .setup) (sym (refusal′ .refusal .ensures) ∙ if1′ .if1 .left), passed-sized (a .setup) t l)
 
 returns-4 : tie.Need-returns-4
 unfolding runRefusal
 returns-4 c =
-    let a = c .before .before .before .before .before .before .before .before .before .before .before .before .before .args in
-    let t = (tables (now (a .blocks)) (now (a .counters)) (now (a .marks)) (now (a .words)) (now (a .memory))) in
-    let l = sized-is (a .setup) t ∙ passed (c .before .before .before .before .lengths-fit .ensures) (c .before .before .before .if2 .left) in
+    let is-sound′ = c .before in
+    let if3′ = is-sound′ .before in
+    let if2′ = if3′ .before in
+    let lengths-fit′ = if2′ .before in
+    let if1′ = lengths-fit′ .before in
+    let refusal′ = if1′ .before in
+    let a = refusal′ .before .before .before .before .before .before .before .args in
+    let t = tables (now (a .blocks)) (now (a .counters)) (now (a .marks)) (now (a .words)) (now (a .memory)) in
     rw (
-      passed (c .before .before .before .before .before .before .in-range .ensures) (c .before .before .before .before .before .if1 .left),
-      l,
-      eq-eqb _ _ (c .before .before .if3 .left),
-      failed (c .before .is-sound .ensures) (c .if4 .taken),
+      sym (refusal′ .refusal .ensures) ∙ if1′ .if1 .left,
+      sized-is (a .setup) t ∙ passed (lengths-fit′ .lengths-fit .ensures) (if2′ .if2 .left),
+      eq-eqb _ _ (if3′ .if3 .left),
+      failed (is-sound′ .is-sound .ensures) (c .if4 .taken),
     )
 
 is-possible-requires : tie.Need-is-possible-requires
-is-possible-requires c κs = inRange-fits (c .before .before .before .before .before .before .before .before .before .before .before .before .before .args .setup) (passed (c .before .before .before .before .before .before .in-range .ensures) (c .before .before .before .before .before .if1 .left))
+is-possible-requires c κs =
+    let if1′ = c .before .before .before .before .before in
+    let refusal′ = if1′ .before in
+    let a = refusal′ .before .before .before .before .before .before .before .args in
+    setup-fits (a .setup) (sym (refusal′ .refusal .ensures) ∙ if1′ .if1 .left)
 
 returns-5 : tie.Need-returns-5
 unfolding runRefusal
 returns-5 c =
-    let a = c .before .before .before .before .before .before .before .before .before .before .before .before .before .before .before .args in
-    let t = (tables (now (a .blocks)) (now (a .counters)) (now (a .marks)) (now (a .words)) (now (a .memory))) in
-    let l = sized-is (a .setup) t ∙ passed (c .before .before .before .before .before .before .lengths-fit .ensures) (c .before .before .before .before .before .if2 .left) in
+    let is-possible′ = c .before in
+    let if4′ = is-possible′ .before in
+    let is-sound′ = if4′ .before in
+    let if3′ = is-sound′ .before in
+    let if2′ = if3′ .before in
+    let lengths-fit′ = if2′ .before in
+    let if1′ = lengths-fit′ .before in
+    let refusal′ = if1′ .before in
+    let a = refusal′ .before .before .before .before .before .before .before .args in
+    let t = tables (now (a .blocks)) (now (a .counters)) (now (a .marks)) (now (a .words)) (now (a .memory)) in
     rw (
-      passed (c .before .before .before .before .before .before .before .before .in-range .ensures) (c .before .before .before .before .before .before .before .if1 .left),
-      l,
-      eq-eqb _ _ (c .before .before .before .before .if3 .left),
-      passed (c .before .before .before .is-sound .ensures) (c .before .before .if4 .left),
-      failed (c .before .is-possible .ensures) (c .if5 .taken),
+      sym (refusal′ .refusal .ensures) ∙ if1′ .if1 .left,
+      sized-is (a .setup) t ∙ passed (lengths-fit′ .lengths-fit .ensures) (if2′ .if2 .left),
+      eq-eqb _ _ (if3′ .if3 .left),
+      passed (is-sound′ .is-sound .ensures) (if4′ .if4 .left),
+      failed (is-possible′ .is-possible .ensures) (c .if5 .taken),
     )
 
 returns-6 : tie.Need-returns-6
 unfolding runRefusal
 returns-6 c =
-    let a = c .before .before .before .before .before .before .before .before .before .before .before .before .before .before .before .args in
-    let t = (tables (now (a .blocks)) (now (a .counters)) (now (a .marks)) (now (a .words)) (now (a .memory))) in
-    let l = sized-is (a .setup) t ∙ passed (c .before .before .before .before .before .before .lengths-fit .ensures) (c .before .before .before .before .before .if2 .left) in
+    let is-possible′ = c .before in
+    let if4′ = is-possible′ .before in
+    let is-sound′ = if4′ .before in
+    let if3′ = is-sound′ .before in
+    let if2′ = if3′ .before in
+    let lengths-fit′ = if2′ .before in
+    let if1′ = lengths-fit′ .before in
+    let refusal′ = if1′ .before in
+    let a = refusal′ .before .before .before .before .before .before .before .args in
+    let t = tables (now (a .blocks)) (now (a .counters)) (now (a .marks)) (now (a .words)) (now (a .memory)) in
     rw (
-      passed (c .before .before .before .before .before .before .before .before .in-range .ensures) (c .before .before .before .before .before .before .before .if1 .left),
-      l,
-      eq-eqb _ _ (c .before .before .before .before .if3 .left),
-      passed (c .before .before .before .is-sound .ensures) (c .before .before .if4 .left),
-      passed (c .before .is-possible .ensures) (c .if5 .left),
+      sym (refusal′ .refusal .ensures) ∙ if1′ .if1 .left,
+      sized-is (a .setup) t ∙ passed (lengths-fit′ .lengths-fit .ensures) (if2′ .if2 .left),
+      eq-eqb _ _ (if3′ .if3 .left),
+      passed (is-sound′ .is-sound .ensures) (if4′ .if4 .left),
+      passed (is-possible′ .is-possible .ensures) (c .if5 .left),
     )
 
 pub run-refusal-spec : {M : Type 1} → statement M

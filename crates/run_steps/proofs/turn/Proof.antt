@@ -1,37 +1,58 @@
+-- The next request is refused, and the run stops; or it is served, its value stored and its bill added (run_progress' turned-refused, turned-taken).
 use Prim.Native.Nat.{_+_}
 use mathlib.Core.Path.{sym, ap, _∙_}
 use denote.Ref.{now}
 use lib.ListN.{length}
-use Rattle.protocol.proofs.Requests.{request-passed}
-use Rattle.run_steps.specs.Steps.{stage, advanced}
-use Rattle.run_steps.proofs.Laws.{sums-taken, turned-refused, turned-taken}
 use borrow.Author.Needs.{needs}
+use Rattle.protocol.specs.Tables.{tables}
+use Rattle.protocol.specs.Requests.{Valid}
+use Rattle.protocol.specs.Runs.{engine}
+use Rattle.protocol.proofs.Requests.{request-passed}
+use Rattle.engine.specs.Usable.{Usable}
+use Rattle.run_progress.specs.Progress.{runStage, advanced}
+use Rattle.run_progress.proofs.Laws.{sums-taken, turned-refused, turned-taken}
+use Rattle.run_steps.proofs.Laws.{serving}
 use Rattle.run_steps.proofs.turn.Statement.{statement}
 use Rattle.run_steps.proofs.turn.Tie as tie
 
 returns : tie.Need-returns
 returns c =
-    let a = c .before .before .before .before .before .before .before .before .before .before .before .args in
-    turned-refused (a .setup) (stage (a .p) (now (a .blocks)) (now (a .counters)) (now (a .marks)) (now (a .words)) (now (a .memory)) (now (a .values))) (a .request) (c .before .before .request-refusal .result) (c .before .before .request-refusal .ensures) (c .before .if1 .taken) (c .stop .result) (c .stop .ensures)
+    let request-refusal′ = c .before .before in
+    let a = request-refusal′ .before .before .before .before .before .before .before .before .before .args in
+    let x = runStage (a .p) (tables (now (a .blocks)) (now (a .counters)) (now (a .marks)) (now (a .words)) (now (a .memory))) (now (a .values)) in
+    turned-refused (engine (a .setup)) x (a .request) (request-refusal′ .request-refusal .result) (request-refusal′ .request-refusal .ensures) (c .before .if1 .taken) (c .stop .result)
+    (c .stop .ensures)
 
 serve-requires : tie.Need-serve-requires
 serve-requires c κs =
-    let a = c .before .before .before .before .before .before .before .before .before .before .before .before .before .before .before .args in
-    let e = sym (c .before .before .before .before .before .before .request-refusal .ensures) ∙ c .before .before .before .before .before .if1 .left in
-    (c .before .before .before .before .before .before .before .before .before .before .before .before .before .before .before .pre .fits, (request-passed (a .setup) (a .p .account .requests + a .p .answer .taken) (a .request) e .0, c .before .before .before .before .before .before .before .before .before .before .before .before .before .before .before .pre .usable))
+    let if1′ = c .before .before .before .before .before in
+    let request-refusal′ = if1′ .before in
+    let start = request-refusal′ .before .before .before .before .before .before .before .before .before in
+    let a = start .args in
+    let e = sym (request-refusal′ .request-refusal .ensures) ∙ if1′ .if1 .left in
+    (start .pre .fits, (request-passed (a .setup) (a .p .account .requests + a .p .answer .taken) (a .request) e .0, start .pre .good))
 
 advance-requires : tie.Need-advance-requires
 advance-requires c κs =
-    let a = c .before .before .before .before .before .before .before .before .before .before .before .before .before .before .before .before .before .before .before .before .before .before .before .before .before .before .before .args in
-    let e = sym (c .before .before .before .before .before .before .before .before .before .before .before .before .before .before .before .before .before .before .request-refusal .ensures) ∙ c .before .before .before .before .before .before .before .before .before .before .before .before .before .before .before .before .before .if1 .left in
-    rw (c .before .before .before .before .before .before .before .before .before .before .before .serve .ensures .1) (sums-taken (a .setup) (stage (a .p) (now (a .blocks)) (now (a .counters)) (now (a .marks)) (now (a .words)) (now (a .memory)) (now (a .values))) (a .request) (c .before .before .before .before .before .before .before .before .before .before .before .before .before .before .before .before .before .before .before .before .before .before .before .before .before .before .before .pre) e)
+    let serve′ = c .before .before .before .before .before .before .before .before .before .before .before in
+    let if1′ = serve′ .before .before .before .before .before .before in
+    let request-refusal′ = if1′ .before in
+    let start = request-refusal′ .before .before .before .before .before .before .before .before .before in
+    let a = start .args in
+    let e = sym (request-refusal′ .request-refusal .ensures) ∙ if1′ .if1 .left in
+    let x = runStage (a .p) (tables (now (a .blocks)) (now (a .counters)) (now (a .marks)) (now (a .words)) (now (a .memory))) (now (a .values)) in
+    rw (serve′ .serve .ensures .1 .0) (sums-taken (a .setup) (engine (a .setup)) (Usable (a .setup)) (Valid (a .setup)) (serving (a .setup)) x (a .request) (start .pre) e)
 
 returns-2 : tie.Need-returns-2
 returns-2 c =
-    let a = c .before .before .before .before .before .before .before .before .before .before .before .before .before .before .before .before .before .before .before .before .before .before .before .before .before .before .before .before .args in
-    let more = ap (λ z. advanced (a .p .answer .taken + 1) (length (now (a .values))) z (a .p)) (c .before .before .before .before .before .before .before .before .before .before .before .before .serve .ensures .1) in
-    turned-taken (a .setup) (stage (a .p) (now (a .blocks)) (now (a .counters)) (now (a .marks)) (now (a .words)) (now (a .memory)) (now (a .values))) (a .request) (c .before .before .before .before .before .before .before .before .before .before .before .before .before .before .before .before .before .before .before .request-refusal .result) (c .before .before .before .before .before .before .before .before .before .before .before .before .before .before .before .before .before .before .before .request-refusal .ensures) (c .before .before .before .before .before .before .before .before .before .before .before .before .before .before .before .before .before .before .if1 .left) _ _ _ (c .advance .ensures ∙ more)
-    (c .before .before .before .before .before .before .before .before .before .before .before .before .serve .ensures .2) (c .before .before .before .before .before .before .before .before .before .before .before .before .serve .ensures .0)
+    let serve′ = c .before .before .before .before .before .before .before .before .before .before .before .before in
+    let if1′ = serve′ .before .before .before .before .before .before in
+    let request-refusal′ = if1′ .before in
+    let a = request-refusal′ .before .before .before .before .before .before .before .before .before .args in
+    let x = runStage (a .p) (tables (now (a .blocks)) (now (a .counters)) (now (a .marks)) (now (a .words)) (now (a .memory))) (now (a .values)) in
+    let more = ap (λ z. advanced (a .p .answer .taken + 1) (length (now (a .values))) z (a .p)) (serve′ .serve .ensures .1 .0) in
+    turned-taken (engine (a .setup)) x (a .request) (request-refusal′ .request-refusal .result) (request-refusal′ .request-refusal .ensures) (if1′ .if1 .left) _ _ _ (c .advance .ensures ∙ more)
+    (serve′ .serve .ensures .1 .1) (serve′ .serve .ensures .0)
 
 pub turn-spec : {M : Type 1} → statement M
 turn-spec =
