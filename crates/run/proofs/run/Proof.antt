@@ -4,7 +4,7 @@
 mod Begin
 mod Turn
 mod Growth
-mod Charge
+mod GrowLent
 use mathlib.Core.Path.{_≡_, refl, sym, _∙_, subst}
 use mathlib.Core.Bool.{Bool, true, false}
 use mathlib.Core.Option.{none, some as is-some}
@@ -58,15 +58,16 @@ use Rattle.protocol.proofs.Account.Laws as Account-l
 use Rattle.protocol.specs.declared.Request.{Request}
 use Rattle.protocol.proofs.Request as Request-t
 use Rattle.protocol.proofs.Request.Laws as Request-l
-use Rattle.run_steps.proofs.Progress as Progress-t
-use Rattle.run_steps.proofs.Progress.Laws as Progress-l
+use Rattle.run_progress.proofs.Progress as Progress-t
+use Rattle.run_progress.proofs.Progress.Laws as Progress-l
 use Rattle.protocol.proofs.RunAnswer as RunAnswer-t
 use Rattle.protocol.proofs.RunAnswer.Laws as RunAnswer-l
-use Rattle.protocol.specs.Tables.{tables as lent}
-use Rattle.protocol.specs.Runs.{run as ran}
-use Rattle.run_steps.specs.Steps.{Stage, stage, begun, turned}
-use Rattle.run.specs.Outcomes.{grown, growthOf, outcome}
-use Rattle.run.proofs.Loop.{no-request, Inv, μ, inv-start, inv-turn, inv-falls, inv-within, inv-room, inv-count, inv-end}
+use Rattle.protocol.specs.Tables.{Tables as Tables₀, tables as lent}
+use Rattle.protocol.specs.Engines.{run as ran}
+use Rattle.protocol.specs.Runs.{runRefusal, engine}
+use Rattle.run_progress.specs.Progress.{RunStage, runStage, begun, turned, grown, growthOf, outcome}
+use Rattle.protocol.proofs.Requests.{no-request}
+use Rattle.run_steps.proofs.Loop.{Inv, μ, inv-start, inv-turn, inv-falls, inv-within, inv-room, inv-count, inv-end}
 use Rattle.walks.proofs.Frame.{dieAll, blocks as blocks-of, slots, alloc-all, leave-all}
 use Rattle.walks.proofs.Opening.{at-list, at-value, slice-at, Cells, Opened, RefOpened, slice-opens, slice-closes, ref-opens, ref-closes}
 use Rattle.run.proofs.run.Proof.Begin as Begin
@@ -78,13 +79,13 @@ use Rattle.run_steps.proofs.turn.Symbol as turn-def
 use Rattle.run_steps.proofs.turn.Symbol.{name as #run_steps·turn}
 use Rattle.run_steps.proofs.turn.Met as turn-thm
 use Rattle.run.proofs.run.Proof.Growth as Growth
-use Rattle.run.proofs.growth.Symbol as growth-def
-use Rattle.run.proofs.growth.Symbol.{name as #run·growth}
-use Rattle.run.proofs.growth.Met as growth-thm
-use Rattle.run.proofs.run.Proof.Charge as Charge
-use Rattle.run.proofs.charge.Symbol as charge-def
-use Rattle.run.proofs.charge.Symbol.{name as #run·charge}
-use Rattle.run.proofs.charge.Met as charge-thm
+use Rattle.run_progress.proofs.growth.Symbol as growth-def
+use Rattle.run_progress.proofs.growth.Symbol.{name as #run_progress·growth}
+use Rattle.run_progress.proofs.growth.Met as growth-thm
+use Rattle.run.proofs.run.Proof.GrowLent as GrowLent
+use Rattle.run_progress.proofs.grow_lent.Symbol as grow-lent-def
+use Rattle.run_progress.proofs.grow_lent.Symbol.{name as #run_progress·grow-lent}
+use Rattle.run_progress.proofs.grow_lent.Met as grow-lent-thm
 use Rattle.run.proofs.run.Key.{name as #run·run}
 use Rattle.run.proofs.run as run
 use Rattle.run.proofs.run.Statement as stated
@@ -104,7 +105,7 @@ small-fields {a} is = (fs .0 .1, (fs .1 .0 .1, (fs .1 .1 .0 .1, fs .1 .1 .1 .0 .
 module _ (setup : Setup) (blocks : List ℕ) (counters : List ℕ) (marks : List ℕ) (words : List ℕ) (memory : List ℕ) (account : Account) (requests : List Request) (values : List ℕ) where
   -- a stage that the loop comes to
   record Turning : Type 0 where
-    at : Stage
+    at : (RunStage Tables₀)
     inv : Inv setup (lent blocks counters marks words memory) account requests values at
     is : Is Progress-t.the-row (at .progress) ((LL.val Progress-t.the-type Progress-l.the-laws (at .progress)) ∷ [])
     blocks-len : length (at .tables .blocks) ≡ length blocks
@@ -139,7 +140,7 @@ module _ {M : Type 1} (𝓤 : URA M) (H : Heap 𝓤) (A : Atoms 𝓤) (W : Given
   abbrev Post : Val → SProp 𝓤
   Post = walkOf 𝓤 H A run.ended stayed (run.clauses 𝓤 H A mem run″) .post bound
 
-  abbrev Held : Stage → Item 𝓤
+  abbrev Held : (RunStage Tables₀) → Item 𝓤
   Held s = ‵ (Cells u32 b-blocks o-blocks (s .tables .blocks)) ⊛ ‵ (Cells u32 b-counters o-counters (s .tables .counters)) ⊛ ‵ (Cells u32 b-marks o-marks (s .tables .marks)) ⊛ ‵ (Cells u32 b-words o-words (s .tables .words)) ⊛ ‵ (Cells u32 b-memory o-memory (s .tables .memory)) ⊛ ‵ (Cells u32 b-values o-values (s .values))
 
   abbrev Kept : Item 𝓤
@@ -170,7 +171,7 @@ module _ {M : Type 1} (𝓤 : URA M) (H : Heap 𝓤) (A : Atoms 𝓤) (W : Given
       at-once ! $ check ! account-is $ keep ! (14 ∷ 12 ∷ 10 ∷ 8 ∷ 6 ∷ 0 ∷ 17 ∷ 3 ∷ 4 ∷ 5 ∷ 15 ∷ 13 ∷ 11 ∷ 9 ∷ 7 ∷ 1 ∷ []) $ group ! 6 $ done !)
 
   -- from the memory at the last stage to the end
-  module _ (s : Stage) (blocks-len : length (s .tables .blocks) ≡ length blocks) (counters-len : length (s .tables .counters) ≡ length counters) (marks-len : length (s .tables .marks) ≡ length marks) (words-len : length (s .tables .words) ≡ length words) (memory-len : length (s .tables .memory) ≡ length memory) (values-len : length (s .values) ≡ length values) (done-so : outcome (s .progress .answer) (s .tables) (grown account (growthOf (s .progress))) (s .values) ≡ ran setup (lent blocks counters marks words memory) account requests values) (end-is : Is RunAnswer-t.the-row (s .progress .answer) ((LL.val RunAnswer-t.the-type RunAnswer-l.the-laws (s .progress .answer)) ∷ [])) where
+  module _ (s : (RunStage Tables₀)) (blocks-len : length (s .tables .blocks) ≡ length blocks) (counters-len : length (s .tables .counters) ≡ length counters) (marks-len : length (s .tables .marks) ≡ length marks) (words-len : length (s .tables .words) ≡ length words) (memory-len : length (s .tables .memory) ≡ length memory) (values-len : length (s .values) ≡ length values) (done-so : outcome (s .progress .answer) (s .tables) (grown account (growthOf (s .progress))) (s .values) ≡ ran (engine setup) (lent blocks counters marks words memory) account requests values) (end-is : Is RunAnswer-t.the-row (s .progress .answer) ((LL.val RunAnswer-t.the-type RunAnswer-l.the-laws (s .progress .answer)) ∷ [])) where
     abbrev AtEnd : Item 𝓤
     AtEnd = Held s ⊛ ‵ (flft κ-requests q-requests) ⊛ ‵ (ShrSlice (named 6) κ-requests Request-t.the-row .own (at-list Request-t.the-row b-requests o-requests γ-requests requests) ((slice-at Request-t.the-row b-requests o-requests requests) ∷ [])) ⊛ ‵ (fres γ-account (Account-t.the-row .coded .code (grown account (growthOf (s .progress))))) ⊛ ‵ (flft κ-account q-account) ⊛ Kept
 
@@ -186,7 +187,7 @@ module _ {M : Type 1} (𝓤 : URA M) (H : Heap 𝓤) (A : Atoms 𝓤) (W : Given
         at-once ! $ suffices ! _ (ends-at 𝓤 H A run.ended stayed (run.clauses 𝓤 H A mem run″) W bound (LL.val RunAnswer-t.the-type RunAnswer-l.the-laws (s .progress .answer)) (s .progress .answer) (tt, ((s .tables .blocks), ((s .tables .counters), ((s .tables .marks), ((s .tables .words), ((s .tables .memory), ((grown account (growthOf (s .progress))), (tt, ((s .values), tt))))))))) (tt, (blocks-len, (counters-len, (marks-len, (words-len, (memory-len, (tt, (tt, (values-len, tt)))))))))) $ says ! done-so $ nothing ! $ move ! (12 ∷ 10 ∷ 8 ∷ 6 ∷ 4 ∷ 16 ∷ 13 ∷ 2 ∷ 0 ∷ []) $ group ! 9 $ frame ! $
         nothing ! $ move ! (1 ∷ 0 ∷ []) $ fjoin ! $ move ! (6 ∷ 0 ∷ []) $ fjoin ! $ move ! (6 ∷ 0 ∷ []) $ fjoin ! $ move ! (1 ∷ 0 ∷ []) $ fjoin ! $ move ! (1 ∷ 0 ∷ []) $ fjoin ! $ move ! (1 ∷ 0 ∷ []) $ fjoin ! $ move ! (1 ∷ 0 ∷ []) $ fjoin ! $ move ! (1 ∷ 0 ∷ []) $ fjoin ! $ owned ! Setup-t.the-row (Is Setup-t.the-row) (LL.makes Setup-t.the-type Setup-l.the-plain 𝓤 H A) setup _ setup-is $ fjoin ! $ frame ! $ owned ! RunAnswer-t.the-row (Is RunAnswer-t.the-row) (LL.makes RunAnswer-t.the-type RunAnswer-l.the-plain 𝓤 H A) (s .progress .answer) _ end-is $ done !
 
-  module _ (𝓣 : Tables 𝓤 H) (known-begin : Triple 𝓤 (𝓣 .C #run_steps·begin) (Begin.Called 𝓤 H A mem run″)) (known-turn : Triple 𝓤 (𝓣 .C #run_steps·turn) (Turn.Called 𝓤 H A mem run″)) (known-growth : Triple 𝓤 (𝓣 .C #run·growth) (Growth.Called 𝓤 H A mem run″)) (known-charge : Triple 𝓤 (𝓣 .C #run·charge) (Charge.Called 𝓤 H A mem run″)) where
+  module _ (𝓣 : Tables 𝓤 H) (known-begin : Triple 𝓤 (𝓣 .C #run_steps·begin) (Begin.Called 𝓤 H A mem run″)) (known-turn : Triple 𝓤 (𝓣 .C #run_steps·turn) (Turn.Called 𝓤 H A mem run″)) (known-growth : Triple 𝓤 (𝓣 .C #run_progress·growth) (Growth.Called 𝓤 H A mem run″)) (known-grow-lent : Triple 𝓤 (𝓣 .C #run_progress·grow-lent) (GrowLent.Called 𝓤 H A mem run″)) where
     abbrev C : Calls 𝓤 H
     C = 𝓣 .C
 
@@ -225,9 +226,9 @@ module _ {M : Type 1} (𝓤 : URA M) (H : Heap 𝓤) (A : Atoms 𝓤) (W : Given
           calls-at ! (fmOf 𝓤 H (W .laws) 𝓣) (Growth.Called 𝓤 H A mem run″) known-growth (Growth.to 𝓤 H A mem run″ W (x .at .progress)) (and-then ! (load ! (from ! (stop !)) (look ! 17 refl)) (no-more !)) (λ w.
           use1 W (later (given (Growth.Told 𝓤 H A mem run″ W (x .at .progress) w) (‵ ftrue))) (Growth.after 𝓤 H A mem run″ W (x .at .progress) w) $ await ! tt $ learn ! (λ made. drop ! $ land ! (from ! (stop !)) (init ! 29 refl (LL.lawful Account-t.the-type Account-l.the-laws 𝓤 H A W .typed (growthOf (x .at .progress)) (w ∷ []) (subst (λ (u : Val). Is Account-t.the-row (growthOf (x .at .progress)) (u ∷ [])) (sym (made .value)) (made .is)) .0)) $
           rewrite ! 29 (λ (u : Val). ‵ (fat fullShare Account-l.mir l₂₃ 0 u)) (made .value) refl $
-          move ! (3 ∷ 4 ∷ []) $ use2 W (later (‵ (MutRef (named 5) κ-account Account-t.the-row .own (at-value Account-t.the-row b-account o-account γ-account account) ((vptr b-account o-account) ∷ [])) ⊛ ‵ (flft κ-account q-account))) (ref-closes Account-t.the-row b-account o-account 𝓤 H A W (LL.makes Account-t.the-type Account-l.the-plain 𝓤 H A) (named 5) κ-account q-account γ-account account account (LL.vals Account-t.the-type Account-l.the-laws account) account-is′) $ await ! tt $ use1 W (raw (Charge.Called 𝓤 H A mem run″ .pre (Charge.to 𝓤 H A mem run″ W κ-account q-account γ-account b-account o-account account (growthOf (x .at .progress))))) (Charge.before 𝓤 H A mem run″ W κ-account q-account γ-account b-account o-account account (growthOf (x .at .progress)) (made .is) (inv-room setup (lent blocks counters marks words memory) account requests values (x .at) (x .inv))) $
-          calls-at ! (fmOf 𝓤 H (W .laws) 𝓣) (Charge.Called 𝓤 H A mem run″) known-charge (Charge.to 𝓤 H A mem run″ W κ-account q-account γ-account b-account o-account account (growthOf (x .at .progress))) (and-then ! (load ! (from ! (stop !)) (look ! 47 refl)) (and-then ! (load ! (from ! (stop !)) (look ! 28 refl)) (no-more !))) (λ u.
-          use1 W (later (given (u ≡ vunit) (‵ (fres γ-account (Account-t.the-row .coded .code (grown account (growthOf (x .at .progress))))) ⊛ ‵ (flft κ-account q-account)))) (Charge.after 𝓤 H A mem run″ W κ-account q-account γ-account b-account o-account account (growthOf (x .at .progress)) u) $ await ! tt $ learn ! (λ unit-is. split ! $ land ! (from ! (stop !)) (init ! 47 refl (subst (λ (y : Val). T (hasTy tyUnit y) × WT y) (sym unit-is) (tt, tt))) $
+          move ! (3 ∷ 4 ∷ []) $ use2 W (later (‵ (MutRef (named 5) κ-account Account-t.the-row .own (at-value Account-t.the-row b-account o-account γ-account account) ((vptr b-account o-account) ∷ [])) ⊛ ‵ (flft κ-account q-account))) (ref-closes Account-t.the-row b-account o-account 𝓤 H A W (LL.makes Account-t.the-type Account-l.the-plain 𝓤 H A) (named 5) κ-account q-account γ-account account account (LL.vals Account-t.the-type Account-l.the-laws account) account-is′) $ await ! tt $ use1 W (raw (GrowLent.Called 𝓤 H A mem run″ .pre (GrowLent.to 𝓤 H A mem run″ W κ-account q-account γ-account b-account o-account account (growthOf (x .at .progress))))) (GrowLent.before 𝓤 H A mem run″ W κ-account q-account γ-account b-account o-account account (growthOf (x .at .progress)) (made .is) (inv-room setup (lent blocks counters marks words memory) account requests values (x .at) (x .inv))) $
+          calls-at ! (fmOf 𝓤 H (W .laws) 𝓣) (GrowLent.Called 𝓤 H A mem run″) known-grow-lent (GrowLent.to 𝓤 H A mem run″ W κ-account q-account γ-account b-account o-account account (growthOf (x .at .progress))) (and-then ! (load ! (from ! (stop !)) (look ! 47 refl)) (and-then ! (load ! (from ! (stop !)) (look ! 28 refl)) (no-more !))) (λ u.
+          use1 W (later (given (u ≡ vunit) (‵ (fres γ-account (Account-t.the-row .coded .code (grown account (growthOf (x .at .progress))))) ⊛ ‵ (flft κ-account q-account)))) (GrowLent.after 𝓤 H A mem run″ W κ-account q-account γ-account b-account o-account account (growthOf (x .at .progress)) u) $ await ! tt $ learn ! (λ unit-is. split ! $ land ! (from ! (stop !)) (init ! 47 refl (subst (λ (y : Val). T (hasTy tyUnit y) × WT y) (sym unit-is) (tt, tt))) $
           assigns ! (of-opd ! (load ! (from ! (fld ! refl (stop !))) (look-in ! 16 (sub ! 3 refl (whole !))))) (from ! (stop !)) (init ! 6 refl (LL.lawful RunAnswer-t.the-type RunAnswer-l.the-laws 𝓤 H A W .typed (x .at .progress .answer) _ (LL.owed Progress-t.the-type Progress-l.the-laws (x .at .progress) _ (x .is) .1 .1 .1 .0) .0)) $
           move ! (2 ∷ 3 ∷ 4 ∷ 0 ∷ 1 ∷ 5 ∷ []) $ group ! 6 $ use1 W (later (raw (Post (LL.val RunAnswer-t.the-type RunAnswer-l.the-laws (x .at .progress .answer))))) (finish (x .at) (x .blocks-len) (x .counters-len) (x .marks-len) (x .words-len) (x .memory-len) (x .values-len) (inv-end setup (lent blocks counters marks words memory) account requests values (x .at) (x .inv) stopped) end-is) $ await ! tt $
           returns ! (look ! 1 refl) $ leave-all ! E (is-some (LL.val RunAnswer-t.the-type RunAnswer-l.the-laws (x .at .progress .answer)) ∷ is-some (LL.val Setup-t.the-type Setup-l.the-laws setup) ∷ is-some (slice-at u32 b-blocks o-blocks blocks) ∷ is-some (slice-at u32 b-counters o-counters counters) ∷ is-some (slice-at u32 b-marks o-marks marks) ∷ is-some (slice-at u32 b-words o-words words) ∷ is-some (slice-at u32 b-memory o-memory memory) ∷ is-some (vptr b-account o-account) ∷ is-some (slice-at Request-t.the-row b-requests o-requests requests) ∷ is-some (slice-at u32 b-values o-values values) ∷ is-some (LL.val Progress-t.the-type Progress-l.the-laws (x .at .progress)) ∷ none ∷ none ∷ none ∷ none ∷ none ∷ none ∷ none ∷ none ∷ none ∷ none ∷ none ∷ none ∷ is-some (LL.val Account-t.the-type Account-l.the-laws (growthOf (x .at .progress))) ∷ none ∷ is-some (vbool false) ∷ none ∷ none ∷ none ∷ none ∷ none ∷ none ∷ none ∷ none ∷ none ∷ none ∷ none ∷ none ∷ none ∷ none ∷ none ∷ is-some u ∷ is-some (vptr b-account o-account) ∷ []) (done !)))))
@@ -269,11 +270,11 @@ module _ {M : Type 1} (𝓤 : URA M) (H : Heap 𝓤) (A : Atoms 𝓤) (W : Given
           rewrite ! 43 (λ (n : ℕ). ‵ (fat fullShare (sliceTy (tyRef erased mut (tyInt w32))) l₃₇ 0 (sliceVal (b-values, o-values) n))) (sym (x .values-len)) refl $
           use1 W (later (some (λ (k : Turn.Key 𝓤 H A mem run″ W b-blocks o-blocks b-counters o-counters b-marks o-marks b-words o-words b-memory o-memory b-values o-values setup (x .at .tables .blocks) (x .at .tables .counters) (x .at .tables .marks) (x .at .tables .words) (x .at .tables .memory) (x .at .values) (x .at .progress) e). raw (Turn.Called 𝓤 H A mem run″ .pre (Turn.to 𝓤 H A mem run″ W b-blocks o-blocks b-counters o-counters b-marks o-marks b-words o-words b-memory o-memory b-values o-values setup (x .at .tables .blocks) (x .at .tables .counters) (x .at .tables .marks) (x .at .tables .words) (x .at .tables .memory) (x .at .values) (x .at .progress) e k)) ⊛ Turn.Out 𝓤 H A mem run″ W b-blocks o-blocks b-counters o-counters b-marks o-marks b-words o-words b-memory o-memory b-values o-values setup (x .at .tables .blocks) (x .at .tables .counters) (x .at .tables .marks) (x .at .tables .words) (x .at .tables .memory) (x .at .values) (x .at .progress) e k))) (Turn.before 𝓤 H A mem run″ W b-blocks o-blocks b-counters o-counters b-marks o-marks b-words o-words b-memory o-memory b-values o-values setup (x .at .tables .blocks) (x .at .tables .counters) (x .at .tables .marks) (x .at .tables .words) (x .at .tables .memory) (x .at .values) (x .at .progress) e setup-is (x .is) e-is (x .inv .goes go .ready) (subst (Room u32) (sym (x .blocks-len)) r-blocks) (subst (Room u32) (sym (x .counters-len)) r-counters) (subst (Room u32) (sym (x .marks-len)) r-marks) (subst (Room u32) (sym (x .words-len)) r-words) (subst (Room u32) (sym (x .memory-len)) r-memory) (subst (Room u32) (sym (x .values-len)) r-values)) $ await ! tt $ pick ! (λ k. split ! $
           calls-at-last ! (fmOf 𝓤 H (W .laws) 𝓣) (Turn.Called 𝓤 H A mem run″) known-turn (Turn.to 𝓤 H A mem run″ W b-blocks o-blocks b-counters o-counters b-marks o-marks b-words o-words b-memory o-memory b-values o-values setup (x .at .tables .blocks) (x .at .tables .counters) (x .at .tables .marks) (x .at .tables .words) (x .at .tables .memory) (x .at .values) (x .at .progress) e k) (and-then ! (load ! (from ! (stop !)) (look ! 8 refl)) (and-then ! (load ! (from ! (stop !)) (look ! 34 refl)) (and-then ! (load ! (from ! (stop !)) (look ! 36 refl)) (and-then ! (load ! (from ! (stop !)) (look ! 38 refl)) (and-then ! (load ! (from ! (stop !)) (look ! 40 refl)) (and-then ! (load ! (from ! (stop !)) (look ! 42 refl)) (and-then ! (load ! (from ! (stop !)) (look ! 44 refl)) (and-then ! (load ! (from ! (stop !)) (look ! 17 refl)) (and-then ! (load ! (from ! (stop !)) (look ! 47 refl)) (no-more !)))))))))) (λ w.
-          use2 W (later (given (Turn.Told 𝓤 H A mem run″ W b-blocks o-blocks b-counters o-counters b-marks o-marks b-words o-words b-memory o-memory b-values o-values setup (x .at .tables .blocks) (x .at .tables .counters) (x .at .tables .marks) (x .at .tables .words) (x .at .tables .memory) (x .at .values) (x .at .progress) e w) (Held (turned setup (x .at) e)))) (Turn.after 𝓤 H A mem run″ W b-blocks o-blocks b-counters o-counters b-marks o-marks b-words o-words b-memory o-memory b-values o-values setup (x .at .tables .blocks) (x .at .tables .counters) (x .at .tables .marks) (x .at .tables .words) (x .at .tables .memory) (x .at .values) (x .at .progress) e k w) $ await ! tt $ learn ! (λ told.
-          land-last ! (from ! (stop !)) (store ! 16 refl (LL.lawful Progress-t.the-type Progress-l.the-laws 𝓤 H A W .typed ((turned setup (x .at) e) .progress) (w ∷ []) (subst (λ (u : Val). Is Progress-t.the-row ((turned setup (x .at) e) .progress) (u ∷ [])) (sym (told .value)) (told .is)) .0)) $
+          use2 W (later (given (Turn.Told 𝓤 H A mem run″ W b-blocks o-blocks b-counters o-counters b-marks o-marks b-words o-words b-memory o-memory b-values o-values setup (x .at .tables .blocks) (x .at .tables .counters) (x .at .tables .marks) (x .at .tables .words) (x .at .tables .memory) (x .at .values) (x .at .progress) e w) (Held (turned (engine setup) (x .at) e)))) (Turn.after 𝓤 H A mem run″ W b-blocks o-blocks b-counters o-counters b-marks o-marks b-words o-words b-memory o-memory b-values o-values setup (x .at .tables .blocks) (x .at .tables .counters) (x .at .tables .marks) (x .at .tables .words) (x .at .tables .memory) (x .at .values) (x .at .progress) e k w) $ await ! tt $ learn ! (λ told.
+          land-last ! (from ! (stop !)) (store ! 16 refl (LL.lawful Progress-t.the-type Progress-l.the-laws 𝓤 H A W .typed ((turned (engine setup) (x .at) e) .progress) (w ∷ []) (subst (λ (u : Val). Is Progress-t.the-row ((turned (engine setup) (x .at) e) .progress) (u ∷ [])) (sym (told .value)) (told .is)) .0)) $
           forget ! 31 refl $ forget ! 32 refl $ forget ! 33 refl $ forget ! 34 refl $ forget ! 35 refl $ forget ! 36 refl $ forget ! 37 refl $ forget ! 38 refl $ forget ! 39 refl $ forget ! 40 refl $ forget ! 41 refl $ forget ! 42 refl $ forget ! 43 refl $ forget ! 44 refl $ forget ! 45 refl $ forget ! 46 refl $
           rewrite ! 16 (λ (u : Val). ‵ (fat fullShare Progress-l.mir l₁₀ 0 u)) (told .value) refl $
-          again ! (≺ setup blocks counters marks words memory account requests values) I x (record { at = turned setup (x .at) e; inv = inv-turn setup (lent blocks counters marks words memory) account requests values (x .at) (x .inv) go; is = told .is; blocks-len = told .blocks-len ∙ x .blocks-len; counters-len = told .counters-len ∙ x .counters-len; marks-len = told .marks-len ∙ x .marks-len; words-len = told .words-len ∙ x .words-len; memory-len = told .memory-len ∙ x .memory-len; values-len = told .values-len ∙ x .values-len }) (inv-falls setup (lent blocks counters marks words memory) account requests values (x .at) (x .inv) go))))))
+          again ! (≺ setup blocks counters marks words memory account requests values) I x (record { at = turned (engine setup) (x .at) e; inv = inv-turn setup (lent blocks counters marks words memory) account requests values (x .at) (x .inv) go; is = told .is; blocks-len = told .blocks-len ∙ x .blocks-len; counters-len = told .counters-len ∙ x .counters-len; marks-len = told .marks-len ∙ x .marks-len; words-len = told .words-len ∙ x .words-len; memory-len = told .memory-len ∙ x .memory-len; values-len = told .values-len ∙ x .values-len }) (inv-falls setup (lent blocks counters marks words memory) account requests values (x .at) (x .inv) go))))))
         where
           e : Request
           e = getD requests (x .at .progress .answer .taken) no-request
@@ -318,19 +319,19 @@ module _ {M : Type 1} (𝓤 : URA M) (H : Heap 𝓤) (A : Atoms 𝓤) (W : Given
         assigns ! (of-opd ! (load ! (from ! (fld ! refl (stop !))) (look-in ! 14 (sub ! 1 refl (whole !))))) (from ! (stop !)) (init ! 30 refl (tt, record { fits = r-requests .0 })) $
         use1 W (later (some (λ (k : Begin.Key 𝓤 H A mem run″ W b-blocks o-blocks b-counters o-counters b-marks o-marks b-words o-words b-memory o-memory b-values o-values setup blocks counters marks words memory values account (length requests)). raw (Begin.Called 𝓤 H A mem run″ .pre (Begin.to 𝓤 H A mem run″ W b-blocks o-blocks b-counters o-counters b-marks o-marks b-words o-words b-memory o-memory b-values o-values setup blocks counters marks words memory values account (length requests) k)) ⊛ Begin.Out 𝓤 H A mem run″ W b-blocks o-blocks b-counters o-counters b-marks o-marks b-words o-words b-memory o-memory b-values o-values setup blocks counters marks words memory values account (length requests) k))) (Begin.before 𝓤 H A mem run″ W b-blocks o-blocks b-counters o-counters b-marks o-marks b-words o-words b-memory o-memory b-values o-values setup blocks counters marks words memory values account (length requests) setup-is account-is (refl, r-requests .0) r-blocks r-counters r-marks r-words r-memory r-values) $ await ! tt $ pick ! (λ k. split ! $
         calls-at ! (fmOf 𝓤 H (W .laws) 𝓣) (Begin.Called 𝓤 H A mem run″) known-begin (Begin.to 𝓤 H A mem run″ W b-blocks o-blocks b-counters o-counters b-marks o-marks b-words o-words b-memory o-memory b-values o-values setup blocks counters marks words memory values account (length requests) k) (and-then ! (load ! (from ! (stop !)) (look ! 8 refl)) (and-then ! (load ! (from ! (stop !)) (look ! 19 refl)) (and-then ! (load ! (from ! (stop !)) (look ! 21 refl)) (and-then ! (load ! (from ! (stop !)) (look ! 23 refl)) (and-then ! (load ! (from ! (stop !)) (look ! 25 refl)) (and-then ! (load ! (from ! (stop !)) (look ! 27 refl)) (and-then ! (load ! (from ! (stop !)) (look ! 29 refl)) (and-then ! (load ! (from ! (stop !)) (look ! 30 refl)) (and-then ! (load ! (from ! (stop !)) (look ! 31 refl)) (no-more !)))))))))) (λ w.
-        use2 W (later (given (Begin.Told 𝓤 H A mem run″ W b-blocks o-blocks b-counters o-counters b-marks o-marks b-words o-words b-memory o-memory b-values o-values setup blocks counters marks words memory values account (length requests) w) (Held (stage (begun setup (lent blocks counters marks words memory) account (length requests) values) blocks counters marks words memory values)))) (Begin.after 𝓤 H A mem run″ W b-blocks o-blocks b-counters o-counters b-marks o-marks b-words o-words b-memory o-memory b-values o-values setup blocks counters marks words memory values account (length requests) k w) $ await ! tt $ learn ! (λ told.
-        land ! (from ! (stop !)) (init ! 16 refl (LL.lawful Progress-t.the-type Progress-l.the-laws 𝓤 H A W .typed ((stage (begun setup (lent blocks counters marks words memory) account (length requests) values) blocks counters marks words memory values) .progress) (w ∷ []) (subst (λ (u : Val). Is Progress-t.the-row ((stage (begun setup (lent blocks counters marks words memory) account (length requests) values) blocks counters marks words memory values) .progress) (u ∷ [])) (sym (told .value)) (told .is)) .0)) $
+        use2 W (later (given (Begin.Told 𝓤 H A mem run″ W b-blocks o-blocks b-counters o-counters b-marks o-marks b-words o-words b-memory o-memory b-values o-values setup blocks counters marks words memory values account (length requests) w) (Held (runStage (begun (runRefusal setup (lent blocks counters marks words memory) account (length requests) values) account (length requests)) (lent blocks counters marks words memory) values)))) (Begin.after 𝓤 H A mem run″ W b-blocks o-blocks b-counters o-counters b-marks o-marks b-words o-words b-memory o-memory b-values o-values setup blocks counters marks words memory values account (length requests) k w) $ await ! tt $ learn ! (λ told.
+        land ! (from ! (stop !)) (init ! 16 refl (LL.lawful Progress-t.the-type Progress-l.the-laws 𝓤 H A W .typed ((runStage (begun (runRefusal setup (lent blocks counters marks words memory) account (length requests) values) account (length requests)) (lent blocks counters marks words memory) values) .progress) (w ∷ []) (subst (λ (u : Val). Is Progress-t.the-row ((runStage (begun (runRefusal setup (lent blocks counters marks words memory) account (length requests) values) account (length requests)) (lent blocks counters marks words memory) values) .progress) (u ∷ [])) (sym (told .value)) (told .is)) .0)) $
         rewrite ! 16 (λ (u : Val). ‵ (fat fullShare Progress-l.mir l₁₀ 0 u)) (told .value) refl $
         forget ! 17 refl $ forget ! 18 refl $ forget ! 19 refl $ forget ! 20 refl $ forget ! 21 refl $ forget ! 22 refl $ forget ! 23 refl $ forget ! 24 refl $ forget ! 25 refl $ forget ! 26 refl $ forget ! 27 refl $ forget ! 28 refl $ forget ! 29 refl $ forget ! 30 refl $
         first ! $ into-block ! $ loops ! 𝓣 (≺ setup blocks counters marks words memory account requests values) (wf setup blocks counters marks words memory account requests values) (I l₀ l₁ l₂ l₃ l₄ l₅ l₆ l₇ l₈ l₉ l₁₀ l₁₁ l₁₂ l₁₃ l₁₄ l₁₅ l₁₆ l₁₇ l₁₈ l₁₉ l₂₀ l₂₁ l₂₂ l₂₃ l₂₄ l₂₅ l₂₆ l₂₇ l₂₈ l₂₉ l₃₀ l₃₁ l₃₂ l₃₃ l₃₄ l₃₅ l₃₆ l₃₇ l₃₈ l₃₉ l₄₀ l₄₁ l₄₂) (λ x. turn-at l₀ l₁ l₂ l₃ l₄ l₅ l₆ l₇ l₈ l₉ l₁₀ l₁₁ l₁₂ l₁₃ l₁₄ l₁₅ l₁₆ l₁₇ l₁₈ l₁₉ l₂₀ l₂₁ l₂₂ l₂₃ l₂₄ l₂₅ l₂₆ l₂₇ l₂₈ l₂₉ l₃₀ l₃₁ l₃₂ l₃₃ l₃₄ l₃₅ l₃₆ l₃₇ l₃₈ l₃₉ l₄₀ l₄₁ l₄₂ account-is x (x .at .progress .going) refl)
-        (record { at = (stage (begun setup (lent blocks counters marks words memory) account (length requests) values) blocks counters marks words memory values); inv = inv-start setup (lent blocks counters marks words memory) account requests values (small-fields account-is); is = told .is; blocks-len = refl; counters-len = refl; marks-len = refl; words-len = refl; memory-len = refl; values-len = refl }))))))
+        (record { at = (runStage (begun (runRefusal setup (lent blocks counters marks words memory) account (length requests) values) account (length requests)) (lent blocks counters marks words memory) values); inv = inv-start setup (lent blocks counters marks words memory) account requests values (small-fields account-is); is = told .is; blocks-len = refl; counters-len = refl; marks-len = refl; words-len = refl; memory-len = refl; values-len = refl }))))))
 
-module _ {M : Type 1} (𝓤 : URA M) (H : Heap 𝓤) (A : Atoms 𝓤) (W : Given 𝓤 H A) (mem : Memory → SProp 𝓤) (run″ : Routine → Fun 𝓤) (𝓣 : Tables 𝓤 H) (known-begin : Triple 𝓤 (𝓣 .C #run_steps·begin) (Begin.Called 𝓤 H A mem run″)) (known-turn : Triple 𝓤 (𝓣 .C #run_steps·turn) (Turn.Called 𝓤 H A mem run″)) (known-growth : Triple 𝓤 (𝓣 .C #run·growth) (Growth.Called 𝓤 H A mem run″)) (known-charge : Triple 𝓤 (𝓣 .C #run·charge) (Charge.Called 𝓤 H A mem run″)) where
+module _ {M : Type 1} (𝓤 : URA M) (H : Heap 𝓤) (A : Atoms 𝓤) (W : Given 𝓤 H A) (mem : Memory → SProp 𝓤) (run″ : Routine → Fun 𝓤) (𝓣 : Tables 𝓤 H) (known-begin : Triple 𝓤 (𝓣 .C #run_steps·begin) (Begin.Called 𝓤 H A mem run″)) (known-turn : Triple 𝓤 (𝓣 .C #run_steps·turn) (Turn.Called 𝓤 H A mem run″)) (known-growth : Triple 𝓤 (𝓣 .C #run_progress·growth) (Growth.Called 𝓤 H A mem run″)) (known-grow-lent : Triple 𝓤 (𝓣 .C #run_progress·grow-lent) (GrowLent.Called 𝓤 H A mem run″)) where
   run-walks : Walks 𝓤 H A run.ended stayed (WpFn 𝓤 H (𝓣 .C) (𝓣 .Λ) code.function) (run.clauses 𝓤 H A mem run″)
   run-walks = walked 𝓤 H A run.ended stayed (run.clauses 𝓤 H A mem run″) (WpFn 𝓤 H (𝓣 .C) (𝓣 .Λ) code.function)
       (λ κs. ((LL.vals Setup-t.the-type Setup-l.the-laws), (slice-vals, (slice-vals, (slice-vals, (slice-vals, (slice-vals, (ptr-vals, (slice-vals, (slice-vals, tt))))))))))
       (λ κs. ((LL.tells Setup-t.the-type Setup-l.the-laws), ((mut-slice-tells (named 0) (κs .0) u32), ((mut-slice-tells (named 1) (κs .1 .0) u32), ((mut-slice-tells (named 2) (κs .1 .1 .0) u32), ((mut-slice-tells (named 3) (κs .1 .1 .1 .0) u32), ((mut-slice-tells (named 4) (κs .1 .1 .1 .1 .0) u32), ((mut-tells (named 5) (κs .1 .1 .1 .1 .1 .0) Account-t.the-row), ((shr-slice-tells (named 6) (κs .1 .1 .1 .1 .1 .1 .0) Request-t.the-row), ((mut-slice-tells (named 7) (κs .1 .1 .1 .1 .1 .1 .1 .0) u32), tt))))))))))
-      (λ κs qs bounds a g are. via 𝓤 _ (fst∗ 𝓤 _ (emp 𝓤)) (walk 𝓤 H A W mem run″ (κs .0) (κs .1 .0) (κs .1 .1 .0) (κs .1 .1 .1 .0) (κs .1 .1 .1 .1 .0) (κs .1 .1 .1 .1 .1 .0) (κs .1 .1 .1 .1 .1 .1 .0) (κs .1 .1 .1 .1 .1 .1 .1 .0) (qs .0) (qs .1 .0) (qs .1 .1 .0) (qs .1 .1 .1 .0) (qs .1 .1 .1 .1 .0) (qs .1 .1 .1 .1 .1 .0) (qs .1 .1 .1 .1 .1 .1 .0) (qs .1 .1 .1 .1 .1 .1 .1 .0) (a .1 .0 .ptr .0) (a .1 .0 .ptr .1) (a .1 .1 .0 .ptr .0) (a .1 .1 .0 .ptr .1) (a .1 .1 .1 .0 .ptr .0) (a .1 .1 .1 .0 .ptr .1) (a .1 .1 .1 .1 .0 .ptr .0) (a .1 .1 .1 .1 .0 .ptr .1) (a .1 .1 .1 .1 .1 .0 .ptr .0) (a .1 .1 .1 .1 .1 .0 .ptr .1) (a .1 .1 .1 .1 .1 .1 .0 .ptr .0) (a .1 .1 .1 .1 .1 .1 .0 .ptr .1) (a .1 .1 .1 .1 .1 .1 .1 .0 .ptr .0) (a .1 .1 .1 .1 .1 .1 .1 .0 .ptr .1) (a .1 .1 .1 .1 .1 .1 .1 .1 .0 .ptr .0) (a .1 .1 .1 .1 .1 .1 .1 .1 .0 .ptr .1) (a .1 .0 .name) (a .1 .1 .0 .name) (a .1 .1 .1 .0 .name) (a .1 .1 .1 .1 .0 .name) (a .1 .1 .1 .1 .1 .0 .name) (a .1 .1 .1 .1 .1 .1 .0 .name) (a .1 .1 .1 .1 .1 .1 .1 .0 .name) (a .1 .1 .1 .1 .1 .1 .1 .1 .0 .name) (a .0) (a .1 .0 .now) (a .1 .1 .0 .now) (a .1 .1 .1 .0 .now) (a .1 .1 .1 .1 .0 .now) (a .1 .1 .1 .1 .1 .0 .now) (a .1 .1 .1 .1 .1 .1 .0 .now) (a .1 .1 .1 .1 .1 .1 .1 .0 .now) (a .1 .1 .1 .1 .1 .1 .1 .1 .0 .now) (are .0) (are .1 .0 .0 .1) (are .1 .1 .0 .0 .1) (are .1 .1 .1 .0 .0 .1) (are .1 .1 .1 .1 .0 .0 .1) (are .1 .1 .1 .1 .1 .0 .0 .1) (are .1 .1 .1 .1 .1 .1 .1 .0 .0 .1) (are .1 .1 .1 .1 .1 .1 .1 .1 .0 .0 .1) 𝓣 known-begin known-turn known-growth known-charge))
+      (λ κs qs bounds a g are. via 𝓤 _ (fst∗ 𝓤 _ (emp 𝓤)) (walk 𝓤 H A W mem run″ (κs .0) (κs .1 .0) (κs .1 .1 .0) (κs .1 .1 .1 .0) (κs .1 .1 .1 .1 .0) (κs .1 .1 .1 .1 .1 .0) (κs .1 .1 .1 .1 .1 .1 .0) (κs .1 .1 .1 .1 .1 .1 .1 .0) (qs .0) (qs .1 .0) (qs .1 .1 .0) (qs .1 .1 .1 .0) (qs .1 .1 .1 .1 .0) (qs .1 .1 .1 .1 .1 .0) (qs .1 .1 .1 .1 .1 .1 .0) (qs .1 .1 .1 .1 .1 .1 .1 .0) (a .1 .0 .ptr .0) (a .1 .0 .ptr .1) (a .1 .1 .0 .ptr .0) (a .1 .1 .0 .ptr .1) (a .1 .1 .1 .0 .ptr .0) (a .1 .1 .1 .0 .ptr .1) (a .1 .1 .1 .1 .0 .ptr .0) (a .1 .1 .1 .1 .0 .ptr .1) (a .1 .1 .1 .1 .1 .0 .ptr .0) (a .1 .1 .1 .1 .1 .0 .ptr .1) (a .1 .1 .1 .1 .1 .1 .0 .ptr .0) (a .1 .1 .1 .1 .1 .1 .0 .ptr .1) (a .1 .1 .1 .1 .1 .1 .1 .0 .ptr .0) (a .1 .1 .1 .1 .1 .1 .1 .0 .ptr .1) (a .1 .1 .1 .1 .1 .1 .1 .1 .0 .ptr .0) (a .1 .1 .1 .1 .1 .1 .1 .1 .0 .ptr .1) (a .1 .0 .name) (a .1 .1 .0 .name) (a .1 .1 .1 .0 .name) (a .1 .1 .1 .1 .0 .name) (a .1 .1 .1 .1 .1 .0 .name) (a .1 .1 .1 .1 .1 .1 .0 .name) (a .1 .1 .1 .1 .1 .1 .1 .0 .name) (a .1 .1 .1 .1 .1 .1 .1 .1 .0 .name) (a .0) (a .1 .0 .now) (a .1 .1 .0 .now) (a .1 .1 .1 .0 .now) (a .1 .1 .1 .1 .0 .now) (a .1 .1 .1 .1 .1 .0 .now) (a .1 .1 .1 .1 .1 .1 .0 .now) (a .1 .1 .1 .1 .1 .1 .1 .0 .now) (a .1 .1 .1 .1 .1 .1 .1 .1 .0 .now) (are .0) (are .1 .0 .0 .1) (are .1 .1 .0 .0 .1) (are .1 .1 .1 .0 .0 .1) (are .1 .1 .1 .1 .0 .0 .1) (are .1 .1 .1 .1 .1 .0 .0 .1) (are .1 .1 .1 .1 .1 .1 .1 .0 .0 .1) (are .1 .1 .1 .1 .1 .1 .1 .1 .0 .0 .1) 𝓣 known-begin known-turn known-growth known-grow-lent))
 
   run-meets : Meets 𝓤 H A run.signature (WpFn 𝓤 H (𝓣 .C) (𝓣 .Λ) code.function) (run.spec 𝓤 H A mem run″)
   run-meets = walk-meets 𝓤 H A run.ended stayed W (goes-none 𝓤 H A W 8 (λ _. Setup-t.the-row) yes (λ κs x f. refl), (goes-slice 𝓤 H A W 8 0 tt (plain (λ _. u32)), (goes-slice 𝓤 H A W 8 1 tt (plain (λ _. u32)), (goes-slice 𝓤 H A W 8 2 tt (plain (λ _. u32)), (goes-slice 𝓤 H A W 8 3 tt (plain (λ _. u32)), (goes-slice 𝓤 H A W 8 4 tt (plain (λ _. u32)), (goes-gave-ref 𝓤 H A W 8 5 tt (plain (λ _. Account-t.the-row)), (goes-none-slice 𝓤 H A W 8 (6 ∷ []) tt (plain (λ _. Request-t.the-row)) yes, (goes-slice 𝓤 H A W 8 7 tt (plain (λ _. u32)), tt)))))))))
@@ -344,5 +345,5 @@ run-spec 𝓤 H 𝓜 𝓖 𝓡 =
     (run-meets 𝓤 H (𝓖 .A) (givenOf 𝓤 H 𝓜 𝓖) (𝓜 .mem) (𝓡 .run) (tablesOf 𝓤 H 𝓜 (tables 𝓤 H 𝓜 𝓡 code.env))
     (cited 𝓤 H (Begin.Called 𝓤 H (𝓖 .A) (𝓜 .mem) (𝓡 .run)) 𝓜 𝓡 code.env #run_steps·begin begin-def.routine code.calls-run-steps·begin (begin-thm.met 𝓤 H 𝓜 𝓖 𝓡))
     (cited 𝓤 H (Turn.Called 𝓤 H (𝓖 .A) (𝓜 .mem) (𝓡 .run)) 𝓜 𝓡 code.env #run_steps·turn turn-def.routine code.calls-run-steps·turn (turn-thm.met 𝓤 H 𝓜 𝓖 𝓡))
-    (cited 𝓤 H (Growth.Called 𝓤 H (𝓖 .A) (𝓜 .mem) (𝓡 .run)) 𝓜 𝓡 code.env #run·growth growth-def.routine code.calls-run·growth (growth-thm.met 𝓤 H 𝓜 𝓖 𝓡))
-    (cited 𝓤 H (Charge.Called 𝓤 H (𝓖 .A) (𝓜 .mem) (𝓡 .run)) 𝓜 𝓡 code.env #run·charge charge-def.routine code.calls-run·charge (charge-thm.met 𝓤 H 𝓜 𝓖 𝓡)))
+    (cited 𝓤 H (Growth.Called 𝓤 H (𝓖 .A) (𝓜 .mem) (𝓡 .run)) 𝓜 𝓡 code.env #run_progress·growth growth-def.routine code.calls-run-progress·growth (growth-thm.met 𝓤 H 𝓜 𝓖 𝓡))
+    (cited 𝓤 H (GrowLent.Called 𝓤 H (𝓖 .A) (𝓜 .mem) (𝓡 .run)) 𝓜 𝓡 code.env #run_progress·grow-lent grow-lent-def.routine code.calls-run-progress·grow-lent (grow-lent-thm.met 𝓤 H 𝓜 𝓖 𝓡)))

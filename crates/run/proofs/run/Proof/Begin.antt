@@ -33,11 +33,12 @@ use Rattle.protocol.proofs.Setup.Laws as Setup-l
 use Rattle.protocol.specs.declared.Account.{Account}
 use Rattle.protocol.proofs.Account as Account-t
 use Rattle.protocol.proofs.Account.Laws as Account-l
-use Rattle.run_steps.specs.declared.Progress.{Progress}
-use Rattle.run_steps.proofs.Progress as Progress-t
-use Rattle.run_steps.proofs.Progress.Laws as Progress-l
+use Rattle.run_progress.specs.declared.Progress.{Progress}
+use Rattle.run_progress.proofs.Progress as Progress-t
+use Rattle.run_progress.proofs.Progress.Laws as Progress-l
 use Rattle.protocol.specs.Tables.{tables as lent}
-use Rattle.run_steps.specs.Steps.{begun}
+use Rattle.protocol.specs.Runs.{runRefusal}
+use Rattle.run_progress.specs.Progress.{begun}
 use Rattle.walks.proofs.Opening.{at-list, slice-at, Cells, Shared, slice-shares, slice-unshares}
 use Rattle.run_steps.proofs.begin as begin
 
@@ -61,7 +62,7 @@ module _ {M : Type 1} (𝓤 : URA M) (H : Heap 𝓤) (A : Atoms 𝓤) (mem : Mem
       Out k = ‵ (Shared u32 b-blocks o-blocks (k .0 ∷ []) blocks) ⊛ ‵ (Shared u32 b-counters o-counters (k .0 ∷ []) counters) ⊛ ‵ (Shared u32 b-marks o-marks (k .0 ∷ []) marks) ⊛ ‵ (Shared u32 b-words o-words (k .0 ∷ []) words) ⊛ ‵ (Shared u32 b-memory o-memory (k .0 ∷ []) memory) ⊛ ‵ (Shared u32 b-values o-values (k .0 ∷ []) values)
 
       abbrev pub after-it : Progress
-      after-it = begun setup (lent blocks counters marks words memory) account count values
+      after-it = begun (runRefusal setup (lent blocks counters marks words memory) account count values) account count
 
       module _ (setup-is : Is Setup-t.the-row setup (LL.vals Setup-t.the-type Setup-l.the-laws setup)) (account-is : Is Account-t.the-row account (LL.vals Account-t.the-type Account-l.the-laws account)) (count-is : Is usize count (vint w64 count ∷ [])) where
         asked : (k : Key) → ent 𝓤 (mean 𝓤 H A (‵ (flft (k .0 ∷ []) fullShare) ⊛ ‵ (ShrSlice (named 0) (k .0 ∷ []) u32 .own (at-list u32 b-blocks o-blocks (k .1) blocks) (slice-at u32 b-blocks o-blocks blocks ∷ [])) ⊛ ‵ (ShrSlice (named 0) (k .0 ∷ []) u32 .own (at-list u32 b-counters o-counters (k .2) counters) (slice-at u32 b-counters o-counters counters ∷ [])) ⊛ ‵ (ShrSlice (named 0) (k .0 ∷ []) u32 .own (at-list u32 b-marks o-marks (k .3) marks) (slice-at u32 b-marks o-marks marks ∷ [])) ⊛ ‵ (ShrSlice (named 0) (k .0 ∷ []) u32 .own (at-list u32 b-words o-words (k .4) words) (slice-at u32 b-words o-words words ∷ [])) ⊛ ‵ (ShrSlice (named 0) (k .0 ∷ []) u32 .own (at-list u32 b-memory o-memory (k .5) memory) (slice-at u32 b-memory o-memory memory ∷ [])) ⊛ ‵ (ShrSlice (named 0) (k .0 ∷ []) u32 .own (at-list u32 b-values o-values (k .6) values) (slice-at u32 b-values o-values values ∷ [])))) (Called .pre (to k))

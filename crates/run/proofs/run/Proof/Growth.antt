@@ -20,14 +20,14 @@ use denote.Triple.Spec.{tripleOf}
 use denote.Triple.Statement.{Contract}
 use denote.Triple.Clauses.{ensured, lasts}
 use denote.Triple.Walked.{says}
-use Rattle.run_steps.specs.declared.Progress.{Progress}
-use Rattle.run_steps.proofs.Progress as Progress-t
-use Rattle.run_steps.proofs.Progress.Laws as Progress-l
+use Rattle.run_progress.specs.declared.Progress.{Progress}
+use Rattle.run_progress.proofs.Progress as Progress-t
+use Rattle.run_progress.proofs.Progress.Laws as Progress-l
 use Rattle.protocol.specs.declared.Account.{Account}
 use Rattle.protocol.proofs.Account as Account-t
 use Rattle.protocol.proofs.Account.Laws as Account-l
-use Rattle.run.specs.Outcomes.{growthOf}
-use Rattle.run.proofs.growth as growth
+use Rattle.run_progress.specs.Progress.{growthOf}
+use Rattle.run_progress.proofs.growth as growth
 
 module _ {M : Type 1} (𝓤 : URA M) (H : Heap 𝓤) (A : Atoms 𝓤) (mem : Memory → SProp 𝓤) (run″ : Routine → Fun 𝓤) where
   abbrev pub Called : Contract 𝓤

@@ -31,13 +31,16 @@ use denote.Triple.Walked.{says}
 use Rattle.protocol.specs.declared.Setup.{Setup}
 use Rattle.protocol.proofs.Setup as Setup-t
 use Rattle.protocol.proofs.Setup.Laws as Setup-l
-use Rattle.run_steps.specs.declared.Progress.{Progress}
-use Rattle.run_steps.proofs.Progress as Progress-t
-use Rattle.run_steps.proofs.Progress.Laws as Progress-l
+use Rattle.run_progress.specs.declared.Progress.{Progress}
+use Rattle.run_progress.proofs.Progress as Progress-t
+use Rattle.run_progress.proofs.Progress.Laws as Progress-l
 use Rattle.protocol.specs.declared.Request.{Request}
 use Rattle.protocol.proofs.Request as Request-t
 use Rattle.protocol.proofs.Request.Laws as Request-l
-use Rattle.run_steps.specs.Steps.{Stage, stage, Ready, turned}
+use Rattle.protocol.specs.Tables.{Tables as Tables₀, tables as lent}
+use Rattle.protocol.specs.Runs.{engine}
+use Rattle.engine.specs.Usable.{Usable}
+use Rattle.run_progress.specs.Progress.{RunStage, runStage, Ready, turned}
 use Rattle.walks.proofs.Opening.{at-list, slice-at, Cells, Loan, slice-lends, slice-returns}
 use Rattle.run_steps.proofs.turn as turn
 
@@ -60,10 +63,10 @@ module _ {M : Type 1} (𝓤 : URA M) (H : Heap 𝓤) (A : Atoms 𝓤) (mem : Mem
       abbrev pub Out : Key → Item 𝓤
       Out k = ‵ (Loan u32 b-blocks o-blocks (k .0 ∷ []) (k .1) (length blocks)) ⊛ ‵ (Loan u32 b-counters o-counters (k .0 ∷ []) (k .2) (length counters)) ⊛ ‵ (Loan u32 b-marks o-marks (k .0 ∷ []) (k .3) (length marks)) ⊛ ‵ (Loan u32 b-words o-words (k .0 ∷ []) (k .4) (length words)) ⊛ ‵ (Loan u32 b-memory o-memory (k .0 ∷ []) (k .5) (length memory)) ⊛ ‵ (Loan u32 b-values o-values (k .0 ∷ []) (k .6) (length values))
 
-      abbrev pub after-it : Stage
-      after-it = turned setup (stage p blocks counters marks words memory values) request
+      abbrev pub after-it : (RunStage Tables₀)
+      after-it = turned (engine setup) (runStage p (lent blocks counters marks words memory) values) request
 
-      module _ (setup-is : Is Setup-t.the-row setup (LL.vals Setup-t.the-type Setup-l.the-laws setup)) (p-is : Is Progress-t.the-row p (LL.vals Progress-t.the-type Progress-l.the-laws p)) (request-is : Is Request-t.the-row request (LL.vals Request-t.the-type Request-l.the-laws request)) (ready : Ready setup (stage p blocks counters marks words memory values)) where
+      module _ (setup-is : Is Setup-t.the-row setup (LL.vals Setup-t.the-type Setup-l.the-laws setup)) (p-is : Is Progress-t.the-row p (LL.vals Progress-t.the-type Progress-l.the-laws p)) (request-is : Is Request-t.the-row request (LL.vals Request-t.the-type Request-l.the-laws request)) (ready : Ready setup (Usable setup) (runStage p (lent blocks counters marks words memory) values)) where
         asked : (k : Key) → ent 𝓤 (mean 𝓤 H A (‵ (flft (k .0 ∷ []) fullShare) ⊛ ‵ (MutSlice (named 0) (k .0 ∷ []) u32 .own (at-list u32 b-blocks o-blocks (k .1) blocks) (slice-at u32 b-blocks o-blocks blocks ∷ [])) ⊛ ‵ (MutSlice (named 0) (k .0 ∷ []) u32 .own (at-list u32 b-counters o-counters (k .2) counters) (slice-at u32 b-counters o-counters counters ∷ [])) ⊛ ‵ (MutSlice (named 0) (k .0 ∷ []) u32 .own (at-list u32 b-marks o-marks (k .3) marks) (slice-at u32 b-marks o-marks marks ∷ [])) ⊛ ‵ (MutSlice (named 0) (k .0 ∷ []) u32 .own (at-list u32 b-words o-words (k .4) words) (slice-at u32 b-words o-words words ∷ [])) ⊛ ‵ (MutSlice (named 0) (k .0 ∷ []) u32 .own (at-list u32 b-memory o-memory (k .5) memory) (slice-at u32 b-memory o-memory memory ∷ [])) ⊛ ‵ (MutSlice (named 0) (k .0 ∷ []) u32 .own (at-list u32 b-values o-values (k .6) values) (slice-at u32 b-values o-values values ∷ [])))) (Called .pre (to k))
         asked k =
             qed W (‵ (flft (k .0 ∷ []) fullShare) ∷ ‵ (MutSlice (named 0) (k .0 ∷ []) u32 .own (at-list u32 b-blocks o-blocks (k .1) blocks) (slice-at u32 b-blocks o-blocks blocks ∷ [])) ∷ ‵ (MutSlice (named 0) (k .0 ∷ []) u32 .own (at-list u32 b-counters o-counters (k .2) counters) (slice-at u32 b-counters o-counters counters ∷ [])) ∷ ‵ (MutSlice (named 0) (k .0 ∷ []) u32 .own (at-list u32 b-marks o-marks (k .3) marks) (slice-at u32 b-marks o-marks marks ∷ [])) ∷ ‵ (MutSlice (named 0) (k .0 ∷ []) u32 .own (at-list u32 b-words o-words (k .4) words) (slice-at u32 b-words o-words words ∷ [])) ∷ ‵ (MutSlice (named 0) (k .0 ∷ []) u32 .own (at-list u32 b-memory o-memory (k .5) memory) (slice-at u32 b-memory o-memory memory ∷ [])) ∷ ‵ (MutSlice (named 0) (k .0 ∷ []) u32 .own (at-list u32 b-values o-values (k .6) values) (slice-at u32 b-values o-values values ∷ [])) ∷ []) ∵ says ! ready $ nothing ! $ owned ! Request-t.the-row (Is Request-t.the-row) (LL.makes Request-t.the-type Request-l.the-plain 𝓤 H A) request _ request-is $ fjoin ! $ owned ! Progress-t.the-row (Is Progress-t.the-row) (LL.makes Progress-t.the-type Progress-l.the-plain 𝓤 H A) p _ p-is $ fjoin ! $ move ! (7 ∷ 0 ∷ []) $ fjoin ! $ move ! (6 ∷ 0 ∷ []) $ fjoin ! $ move ! (5 ∷ 0 ∷ []) $ fjoin ! $ move ! (4 ∷ 0 ∷ []) $ fjoin ! $ move ! (3 ∷ 0 ∷ []) $ fjoin ! $ move ! (2 ∷ 0 ∷ []) $ fjoin ! $ owned ! Setup-t.the-row (Is Setup-t.the-row) (LL.makes Setup-t.the-type Setup-l.the-plain 𝓤 H A) setup _ setup-is $ fjoin ! $ nothing ! $ move ! (2 ∷ 0 ∷ []) $ join ! $ frame ! $ done !
@@ -94,12 +97,12 @@ module _ {M : Type 1} (𝓤 : URA M) (H : Heap 𝓤) (A : Atoms 𝓤) (mem : Mem
       after k w =
           qed W (raw (Called .post (to k) w) ∷ Out k ∷ []) ∵ updating ! $
           use1 W (later (some (λ (r : Progress). ((‵ (flft (k .0 ∷ []) fullShare) ⊛ ‵ ftrue) ⊛ ‵ (Progress-t.the-row .own r (w ∷ []))) ⊛ raw (ensured 𝓤 H A turn.ended (turn.clauses 𝓤 H A mem run″) (k .0 ∷ [], tt) (to k .0 .3) tt r)))) (id⊢ 𝓤 _) $ await ! tt $ pick ! (λ r.
-          split ! $ move ! (1 ∷ []) $ use1 W (some (λ (zs : Unit {0} × (List ℕ × (List ℕ × (List ℕ × (List ℕ × (List ℕ × (List ℕ × (Unit {0} × (Unit {0} × Unit {0}))))))))). ‵ (lasts turn.ended (k .0 ∷ [], tt) (to k .0 .3) zs) ⊛ raw (fact 𝓤 (stage r (zs .1 .0) (zs .1 .1 .0) (zs .1 .1 .1 .0) (zs .1 .1 .1 .1 .0) (zs .1 .1 .1 .1 .1 .0) (zs .1 .1 .1 .1 .1 .1 .0) ≡ after-it)))) (id⊢ 𝓤 _) $ pick ! (λ zs.
-          split ! $ move ! (1 ∷ []) $ heard ! (stage r (zs .1 .0) (zs .1 .1 .0) (zs .1 .1 .1 .0) (zs .1 .1 .1 .1 .0) (zs .1 .1 .1 .1 .1 .0) (zs .1 .1 .1 .1 .1 .1 .0) ≡ after-it) (λ e.
+          split ! $ move ! (1 ∷ []) $ use1 W (some (λ (zs : Unit {0} × (List ℕ × (List ℕ × (List ℕ × (List ℕ × (List ℕ × (List ℕ × (Unit {0} × (Unit {0} × Unit {0}))))))))). ‵ (lasts turn.ended (k .0 ∷ [], tt) (to k .0 .3) zs) ⊛ raw (fact 𝓤 (runStage r (lent (zs .1 .0) (zs .1 .1 .0) (zs .1 .1 .1 .0) (zs .1 .1 .1 .1 .0) (zs .1 .1 .1 .1 .1 .0)) (zs .1 .1 .1 .1 .1 .1 .0) ≡ after-it)))) (id⊢ 𝓤 _) $ pick ! (λ zs.
+          split ! $ move ! (1 ∷ []) $ heard ! (runStage r (lent (zs .1 .0) (zs .1 .1 .0) (zs .1 .1 .1 .0) (zs .1 .1 .1 .1 .0) (zs .1 .1 .1 .1 .1 .0)) (zs .1 .1 .1 .1 .1 .1 .0) ≡ after-it) (λ e.
           -- what is said of each last list
           fsplit ! $ drop ! $ fsplit ! $ fsplit ! $ move ! (2 ∷ []) $ fsplit ! $ fsplit ! $ move ! (2 ∷ []) $ fsplit ! $ fsplit ! $ move ! (2 ∷ []) $ fsplit ! $ fsplit ! $ move ! (2 ∷ []) $ fsplit ! $ fsplit ! $ move ! (2 ∷ []) $ fsplit ! $ fsplit ! $
           move ! (12 ∷ []) $ feqL ! (λ len-blocks. move ! (10 ∷ []) $ feqL ! (λ len-counters. move ! (8 ∷ []) $ feqL ! (λ len-marks. move ! (6 ∷ []) $ feqL ! (λ len-words. move ! (4 ∷ []) $ feqL ! (λ len-memory. move ! (1 ∷ []) $ feqL ! (λ len-values.
-          move ! (7 ∷ []) $ split ! $ rewrite ! 1 (λ (x : Stage). ‵ (Progress-t.the-row .own (x .progress) (w ∷ []))) e refl $ move ! (1 ∷ []) $ facts ! Progress-t.the-row (Is Progress-t.the-row) (shows 𝓤 H A Progress-t.the-row) (after-it .progress) (w ∷ []) (λ is.
+          move ! (7 ∷ []) $ split ! $ rewrite ! 1 (λ (x : (RunStage Tables₀)). ‵ (Progress-t.the-row .own (x .progress) (w ∷ []))) e refl $ move ! (1 ∷ []) $ facts ! Progress-t.the-row (Is Progress-t.the-row) (shows 𝓤 H A Progress-t.the-row) (after-it .progress) (w ∷ []) (λ is.
           split ! $ lft-end ! tt $ move ! (9 ∷ []) $ split ! $ move ! (1 ∷ []) $ split ! $ move ! (1 ∷ []) $ split ! $ move ! (1 ∷ []) $ split ! $ move ! (1 ∷ []) $ split ! $
           move ! (6 ∷ 5 ∷ 14 ∷ []) $ use3 W (later (‵ (Cells u32 b-blocks o-blocks (zs .1 .0)) ⊛ ‵ (fdead (k .0 ∷ [])))) (slice-returns u32 b-blocks o-blocks 𝓤 H A W (k .0 ∷ []) (k .1) (length blocks) (zs .1 .0)) $ await ! tt $ split ! $
           move ! (1 ∷ 6 ∷ 13 ∷ []) $ use3 W (later (‵ (Cells u32 b-counters o-counters (zs .1 .1 .0)) ⊛ ‵ (fdead (k .0 ∷ [])))) (slice-returns u32 b-counters o-counters 𝓤 H A W (k .0 ∷ []) (k .2) (length counters) (zs .1 .1 .0)) $ await ! tt $ split ! $
@@ -107,5 +110,5 @@ module _ {M : Type 1} (𝓤 : URA M) (H : Heap 𝓤) (A : Atoms 𝓤) (mem : Mem
           move ! (1 ∷ 6 ∷ 11 ∷ []) $ use3 W (later (‵ (Cells u32 b-words o-words (zs .1 .1 .1 .1 .0)) ⊛ ‵ (fdead (k .0 ∷ [])))) (slice-returns u32 b-words o-words 𝓤 H A W (k .0 ∷ []) (k .4) (length words) (zs .1 .1 .1 .1 .0)) $ await ! tt $ split ! $
           move ! (1 ∷ 5 ∷ 10 ∷ []) $ use3 W (later (‵ (Cells u32 b-memory o-memory (zs .1 .1 .1 .1 .1 .0)) ⊛ ‵ (fdead (k .0 ∷ [])))) (slice-returns u32 b-memory o-memory 𝓤 H A W (k .0 ∷ []) (k .5) (length memory) (zs .1 .1 .1 .1 .1 .0)) $ await ! tt $ split ! $
           move ! (1 ∷ 6 ∷ 8 ∷ []) $ use3 W (later (‵ (Cells u32 b-values o-values (zs .1 .1 .1 .1 .1 .1 .0)) ⊛ ‵ (fdead (k .0 ∷ [])))) (slice-returns u32 b-values o-values 𝓤 H A W (k .0 ∷ []) (k .6) (length values) (zs .1 .1 .1 .1 .1 .1 .0)) $ await ! tt $ split ! $
-          rewrite ! 6 (λ (x : Stage). ‵ (Cells u32 b-blocks o-blocks (x .tables .blocks))) e refl $ rewrite ! 5 (λ (x : Stage). ‵ (Cells u32 b-counters o-counters (x .tables .counters))) e refl $ rewrite ! 4 (λ (x : Stage). ‵ (Cells u32 b-marks o-marks (x .tables .marks))) e refl $ rewrite ! 3 (λ (x : Stage). ‵ (Cells u32 b-words o-words (x .tables .words))) e refl $ rewrite ! 2 (λ (x : Stage). ‵ (Cells u32 b-memory o-memory (x .tables .memory))) e refl $ rewrite ! 0 (λ (x : Stage). ‵ (Cells u32 b-values o-values (x .values))) e refl $
-          at-once ! $ check ! (record { value = ap only (LL.tells Progress-t.the-type Progress-l.the-laws (after-it .progress) (w ∷ []) is); is = subst (Is Progress-t.the-row (after-it .progress)) (LL.tells Progress-t.the-type Progress-l.the-laws (after-it .progress) (w ∷ []) is) is; blocks-len = subst (λ (x : Stage). length (x .tables .blocks) ≡ length blocks) e len-blocks; counters-len = subst (λ (x : Stage). length (x .tables .counters) ≡ length counters) e len-counters; marks-len = subst (λ (x : Stage). length (x .tables .marks) ≡ length marks) e len-marks; words-len = subst (λ (x : Stage). length (x .tables .words) ≡ length words) e len-words; memory-len = subst (λ (x : Stage). length (x .tables .memory) ≡ length memory) e len-memory; values-len = subst (λ (x : Stage). length (x .values) ≡ length values) e len-values }) $ keep ! (6 ∷ 5 ∷ 4 ∷ 3 ∷ 2 ∷ 0 ∷ []) $ done !))))))))))
+          rewrite ! 6 (λ (x : (RunStage Tables₀)). ‵ (Cells u32 b-blocks o-blocks (x .tables .blocks))) e refl $ rewrite ! 5 (λ (x : (RunStage Tables₀)). ‵ (Cells u32 b-counters o-counters (x .tables .counters))) e refl $ rewrite ! 4 (λ (x : (RunStage Tables₀)). ‵ (Cells u32 b-marks o-marks (x .tables .marks))) e refl $ rewrite ! 3 (λ (x : (RunStage Tables₀)). ‵ (Cells u32 b-words o-words (x .tables .words))) e refl $ rewrite ! 2 (λ (x : (RunStage Tables₀)). ‵ (Cells u32 b-memory o-memory (x .tables .memory))) e refl $ rewrite ! 0 (λ (x : (RunStage Tables₀)). ‵ (Cells u32 b-values o-values (x .values))) e refl $
+          at-once ! $ check ! (record { value = ap only (LL.tells Progress-t.the-type Progress-l.the-laws (after-it .progress) (w ∷ []) is); is = subst (Is Progress-t.the-row (after-it .progress)) (LL.tells Progress-t.the-type Progress-l.the-laws (after-it .progress) (w ∷ []) is) is; blocks-len = subst (λ (x : (RunStage Tables₀)). length (x .tables .blocks) ≡ length blocks) e len-blocks; counters-len = subst (λ (x : (RunStage Tables₀)). length (x .tables .counters) ≡ length counters) e len-counters; marks-len = subst (λ (x : (RunStage Tables₀)). length (x .tables .marks) ≡ length marks) e len-marks; words-len = subst (λ (x : (RunStage Tables₀)). length (x .tables .words) ≡ length words) e len-words; memory-len = subst (λ (x : (RunStage Tables₀)). length (x .tables .memory) ≡ length memory) e len-memory; values-len = subst (λ (x : (RunStage Tables₀)). length (x .values) ≡ length values) e len-values }) $ keep ! (6 ∷ 5 ∷ 4 ∷ 3 ∷ 2 ∷ 0 ∷ []) $ done !))))))))))
