@@ -1,25 +1,24 @@
 // A rival's copies: who has one, and what an entry does to them.
-use engine_holders::slot;
 use protocol::Block;
 use protocol::Entry;
+use protocol::Operation;
 use protocol::Request;
 use protocol::Setup;
 ghost use mathlib.Core.Path.{_≡_};
-ghost use mathlib.Core.Bool.{cond};
 ghost use mathlib.Core.List.{List, [], _∷_};
 ghost use Prim.Native.Nat.{ℕ, _<_};
-ghost use lib.ListN.{length, set};
+ghost use lib.ListN.{length};
 ghost use Rattle.protocol.specs.Refusals.{noRefusal};
-ghost use Rattle.protocol.specs.Board.{Fits, slot, slots};
+ghost use Rattle.protocol.specs.Board.{Fits, slots};
 ghost use Rattle.protocol.specs.Rival.{rival, RivalSized, keepsAt, keeps, shared, unmarked, rivalFetched, rivalWrittenBack, rivalDropped, played, refusal};
-ghost use Rattle.rival_copies.specs.Copies.{lent, anotherKeeps, completion};
+ghost use Rattle.rival_copies.specs.Copies.{rivalLent, rivalBefore, rivalAfter, rivalMarked, anotherKeeps, copyUnmarked, loneMarked, completion};
 
 // ---- who has a copy
 
 // Whether slot k has a copy of a block.
 pub fn keeps_at(k: usize, block: Block, blocks: &[u32], held: &[u32]) -> bool
     requires { ⌜ (k < length (now blocks)) × (k < length (now held)) ⌝ }
-    ensures { λ r. ⌜ ((m : List ℕ) → r ≡ keepsAt (rival (now (blocks .entry)) (now (held .entry)) m) k block) ⌝ }
+    ensures { λ r. ⌜ ((m : List ℕ) → r ≡ keepsAt (rivalMarked blocks held m) k block) ⌝ }
 {
     if held[k] != 1 {
         return false;
@@ -32,9 +31,9 @@ pub fn keeps(setup: Setup, processor: u32, block: Block, blocks: &[u32], held: &
     requires { ⌜ Fits setup ⌝ }
     requires { ⌜ processor < setup .processors ⌝ }
     requires { ⌜ (length (now blocks) ≡ slots setup) × (length (now held) ≡ slots setup) ⌝ }
-    ensures { λ r. ⌜ ((m : List ℕ) → r ≡ keeps setup (rival (now (blocks .entry)) (now (held .entry)) m) processor block) ⌝ }
+    ensures { λ r. ⌜ ((m : List ℕ) → r ≡ keeps setup (rivalMarked blocks held m) processor block) ⌝ }
 {
-    keeps_at(slot(setup, processor, block), block, blocks, held)
+    keeps_at(setup.slot(processor, block), block, blocks, held)
 }
 
 // Whether processor j is another one and has a copy.
@@ -49,7 +48,7 @@ fn another_keeps(
     requires { ⌜ Fits setup ⌝ }
     requires { ⌜ j < setup .processors ⌝ }
     requires { ⌜ (length (now blocks) ≡ slots setup) × (length (now held) ≡ slots setup) ⌝ }
-    ensures { λ r. ⌜ ((m : List ℕ) → r ≡ anotherKeeps setup (rival (now (blocks .entry)) (now (held .entry)) m) processor block j) ⌝ }
+    ensures { λ r. ⌜ ((m : List ℕ) → r ≡ anotherKeeps setup (rivalMarked blocks held m) processor block j) ⌝ }
 {
     if j == processor {
         return false;
@@ -61,7 +60,7 @@ fn another_keeps(
 pub fn shared(setup: Setup, processor: u32, block: Block, blocks: &[u32], held: &[u32]) -> bool
     requires { ⌜ Fits setup ⌝ }
     requires { ⌜ (length (now blocks) ≡ slots setup) × (length (now held) ≡ slots setup) ⌝ }
-    ensures { λ r. ⌜ ((m : List ℕ) → r ≡ shared setup (rival (now (blocks .entry)) (now (held .entry)) m) processor block) ⌝ }
+    ensures { λ r. ⌜ ((m : List ℕ) → r ≡ shared setup (rivalMarked blocks held m) processor block) ⌝ }
 {
     let n = setup.processors;
     let mut j = 0;
@@ -80,10 +79,10 @@ pub fn shared(setup: Setup, processor: u32, block: Block, blocks: &[u32], held: 
 fn unmark_copy(setup: Setup, block: Block, j: u32, blocks: &[u32], held: &[u32], marks: &mut [u32])
     requires { ⌜ Fits setup ⌝ }
     requires { ⌜ j < setup .processors ⌝ }
-    requires { ⌜ RivalSized setup (lent blocks held marks) ⌝ }
-    ensures { λ _. ⌜ ((m : List ℕ) → now (marks .exit) ≡ cond (keeps setup (rival (now (blocks .entry)) (now (held .entry)) m) j block) (set (now (marks .entry)) (slot setup j block) 0) (now (marks .entry))) ⌝ }
+    requires { ⌜ RivalSized setup (rivalLent blocks held marks) ⌝ }
+    ensures { λ _. ⌜ ((m : List ℕ) → now (marks .exit) ≡ copyUnmarked setup (rivalMarked blocks held m) block j (now (marks .entry))) ⌝ }
 {
-    let k = slot(setup, j, block);
+    let k = setup.slot(j, block);
     if !keeps_at(k, block, blocks, held) {
         return;
     }
@@ -93,8 +92,8 @@ fn unmark_copy(setup: Setup, block: Block, j: u32, blocks: &[u32], held: &[u32],
 // A block's mark clears at every processor.
 fn unmark(setup: Setup, block: Block, blocks: &[u32], held: &[u32], marks: &mut [u32])
     requires { ⌜ Fits setup ⌝ }
-    requires { ⌜ RivalSized setup (lent blocks held marks) ⌝ }
-    ensures { λ _. ⌜ now (marks .exit) ≡ unmarked setup (lent (blocks .entry) (held .entry) (marks .entry)) block (setup .processors) ⌝ }
+    requires { ⌜ RivalSized setup (rivalLent blocks held marks) ⌝ }
+    ensures { λ _. ⌜ now (marks .exit) ≡ unmarked setup (rivalBefore blocks held marks) block (setup .processors) ⌝ }
 {
     let n = setup.processors;
     for j in 0..n {
@@ -113,11 +112,11 @@ fn fetch<'a>(
 )
     requires { ⌜ Fits setup ⌝ }
     requires { ⌜ processor < setup .processors ⌝ }
-    requires { ⌜ RivalSized setup (lent blocks held marks) ⌝ }
-    ensures { λ _. ⌜ lent (blocks .exit) (held .exit) (marks .exit) ≡ rivalFetched setup (lent (blocks .entry) (held .entry) (marks .entry)) processor block ⌝ }
+    requires { ⌜ RivalSized setup (rivalLent blocks held marks) ⌝ }
+    ensures { λ _. ⌜ rivalAfter blocks held marks ≡ rivalFetched setup (rivalBefore blocks held marks) processor block ⌝ }
 {
     unmark(setup, block, &*blocks, &*held, marks);
-    let k = slot(setup, processor, block);
+    let k = setup.slot(processor, block);
     blocks[k] = block.0;
     held[k] = 1;
     marks[k] = 0;
@@ -130,7 +129,7 @@ fn write_back(setup: Setup, processor: u32, block: Block, marks: &mut [u32])
     requires { ⌜ length (now marks) ≡ slots setup ⌝ }
     ensures { λ _. ⌜ ((b h : List ℕ) → rival b h (now (marks .exit)) ≡ rivalWrittenBack setup (rival b h (now (marks .entry))) processor block) ⌝ }
 {
-    let k = slot(setup, processor, block);
+    let k = setup.slot(processor, block);
     marks[k] = 0;
 }
 
@@ -145,10 +144,10 @@ fn drop<'a>(
 )
     requires { ⌜ Fits setup ⌝ }
     requires { ⌜ processor < setup .processors ⌝ }
-    requires { ⌜ RivalSized setup (lent blocks held marks) ⌝ }
-    ensures { λ _. ⌜ lent (blocks .exit) (held .exit) (marks .exit) ≡ rivalDropped setup (lent (blocks .entry) (held .entry) (marks .entry)) processor block ⌝ }
+    requires { ⌜ RivalSized setup (rivalLent blocks held marks) ⌝ }
+    ensures { λ _. ⌜ rivalAfter blocks held marks ≡ rivalDropped setup (rivalBefore blocks held marks) processor block ⌝ }
 {
-    let k = slot(setup, processor, block);
+    let k = setup.slot(processor, block);
     blocks[k] = 0;
     held[k] = 0;
     marks[k] = 0;
@@ -163,9 +162,9 @@ pub fn play<'a>(
     marks: &'a mut [u32],
 )
     requires { ⌜ Fits setup ⌝ }
-    requires { ⌜ RivalSized setup (lent blocks held marks) ⌝ }
-    requires { ⌜ refusal setup (lent blocks held marks) [] entry ≡ noRefusal ⌝ }
-    ensures { λ _. ⌜ lent (blocks .exit) (held .exit) (marks .exit) ≡ played setup (lent (blocks .entry) (held .entry) (marks .entry)) [] entry ⌝ }
+    requires { ⌜ RivalSized setup (rivalLent blocks held marks) ⌝ }
+    requires { ⌜ refusal setup (rivalLent blocks held marks) [] entry ≡ noRefusal ⌝ }
+    ensures { λ _. ⌜ rivalAfter blocks held marks ≡ played setup (rivalBefore blocks held marks) [] entry ⌝ }
 {
     match entry {
         Entry::Fetch(i, b) => fetch(setup, i, b, blocks, held, marks),
@@ -174,6 +173,27 @@ pub fn play<'a>(
         Entry::Complete => {}
         Entry::CompleteByBroadcast => {}
     }
+}
+
+// The block is marked at a processor, unless another has a copy.
+fn mark_lone(
+    setup: Setup,
+    processor: u32,
+    block: Block,
+    blocks: &[u32],
+    held: &[u32],
+    marks: &mut [u32],
+)
+    requires { ⌜ Fits setup ⌝ }
+    requires { ⌜ processor < setup .processors ⌝ }
+    requires { ⌜ RivalSized setup (rivalLent blocks held marks) ⌝ }
+    ensures { λ _. ⌜ now (marks .exit) ≡ loneMarked setup (rivalBefore blocks held marks) processor block ⌝ }
+{
+    if shared(setup, processor, block, blocks, held) {
+        return;
+    }
+    let k = setup.slot(processor, block);
+    marks[k] = 1;
 }
 
 // A completed write marks the block where it has one holder; by broadcast nothing changes.
@@ -187,19 +207,18 @@ pub fn play_completion(
 )
     requires { ⌜ Fits setup ⌝ }
     requires { ⌜ request .processor < setup .processors ⌝ }
-    requires { ⌜ RivalSized setup (lent blocks held marks) ⌝ }
-    ensures { λ _. ⌜ rival (now (blocks .entry)) (now (held .entry)) (now (marks .exit)) ≡ played setup (lent (blocks .entry) (held .entry) (marks .entry)) (request ∷ []) (completion broadcast) ⌝ }
+    requires { ⌜ RivalSized setup (rivalLent blocks held marks) ⌝ }
+    ensures { λ _. ⌜ rivalMarked blocks held (now (marks .exit)) ≡ played setup (rivalBefore blocks held marks) (request ∷ []) (completion broadcast) ⌝ }
 {
     if broadcast {
         return;
     }
-    if !request.is_write() {
-        return;
+    let operation = request.operation;
+    match operation {
+        Operation::Read(_) => {}
+        Operation::Write(v, _) => {
+            let block = setup.block_of(v);
+            mark_lone(setup, request.processor, block, blocks, held, marks);
+        }
     }
-    let block = setup.target(request);
-    if shared(setup, request.processor, block, blocks, held) {
-        return;
-    }
-    let k = slot(setup, request.processor, block);
-    marks[k] = 1;
 }

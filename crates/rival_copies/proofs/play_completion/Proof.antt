@@ -1,8 +1,5 @@
--- Only a write that is not by broadcast, of a block with one holder, marks.
+-- By broadcast nothing changes; else each operation leaves its own marks.
 use borrow.Author.Needs.{needs}
-use mathlib.Core.Path.{sym, _∙_}
-use borrow.Author.Tests.{not-true, not-false}
-use denote.Ref.{now}
 use Rattle.protocol.specs.Rival.{rivalCompleted}
 use Rattle.rival_copies.proofs.play_completion.Statement.{statement}
 use Rattle.rival_copies.proofs.play_completion.Tie as tie
@@ -12,30 +9,24 @@ returns c = rw (c .if1 .taken)
 
 returns-2 : tie.Need-returns-2
 unfolding rivalCompleted
-returns-2 c = rw (c .before .before .if1 .left, sym (c .before .is-write .ensures) ∙ not-true (c .before .is-write .result) (c .if2 .taken))
+returns-2 c = rw (c .before .before .if1 .left, c .enum-told .given .1)
 
 returns-3 : tie.Need-returns-3
 unfolding rivalCompleted
 returns-3 c =
-    rw (c .before .before .before .before .before .if1 .left, sym (c .before .before .before .before .is-write .ensures) ∙ not-false (c .before .before .before .before .is-write .result) (c .before .before .before .if2 .left), ← (c .before .before .target .ensures), ← (c .before .shared .ensures (now (c .before .before .before .before .before .before .before .before .before .args .marks))), c .if3 .taken)
-
-returns-4 : tie.Need-returns-4
-unfolding rivalCompleted
-returns-4 c =
-    rw (c .before .before .before .before .before .before .if1 .left, sym (c .before .before .before .before .before .is-write .ensures) ∙ not-false (c .before .before .before .before .before .is-write .result) (c .before .before .before .before .if2 .left), ← (c .before .before .before .target .ensures), ← (c .before .before .shared .ensures (now (c .before .before .before .before .before .before .before .before .before .before .args .marks))), c .before .if3 .left, ← (c .slot .ensures .value))
+    let at-block-of = c .before .before .before .before in
+    let at-if = at-block-of .before .before .before .before in
+    rw (at-if .if1 .left, at-block-of .before .before .operation .given .1, ← (at-block-of .block-of .ensures), c .before .before .mark-lone .ensures)
 
 pub play-completion-spec : {M : Type 1} → statement M
 play-completion-spec =
     tie.close
     (tie.spec
     returns
+    (λ c. search needs)
+    (λ c. search needs)
+    (λ c κs. search needs)
     (λ c κs. search needs)
     returns-2
-    (λ c κs. search needs)
-    (λ c κs. search needs)
-    returns-3
-    (λ c κs. search needs)
     (λ c. search needs)
-    (λ c. search needs)
-    (λ c. search needs)
-    returns-4)
+    returns-3)

@@ -9,7 +9,7 @@ use denote.Ref.{now}
 use lib.Dec.{ltb}
 use Rattle.protocol.specs.Lists.{firstFrom, first}
 use Rattle.protocol.specs.Rival.{rival}
-use Rattle.engine_holders.proofs.Search.{started, found, passed, ended}
+use Rattle.protocol.proofs.Search.{search-started, search-found, search-passed, search-ended}
 use Rattle.rival_copies.specs.Copies.{anotherKeeps}
 use Rattle.rival_copies.proofs.Laws.{shared-is}
 use Rattle.rival_copies.proofs.shared.Statement.{statement}
@@ -27,14 +27,16 @@ abbrev μ-loop : tie.MeasureT-loop
 loop-holds : tie.Need-loop-holds Inv-loop μ-loop
 loop-holds c =
     let a = c .before .before .args in
-    (omega arith, λ m. started (anotherKeeps (a .setup) (rival (now (a .blocks)) (now (a .held)) m) (a .processor) (a .block)) (a .setup .processors))
+    (omega arith, λ m. search-started (anotherKeeps (a .setup) (rival (now (a .blocks)) (now (a .held)) m) (a .processor) (a .block)) (a .setup .processors))
 
 loop-again : tie.Need-loop-again Inv-loop μ-loop
 loop-again c =
-    let a = c .before .before .before .before .before .before .args in (
+    let at-loop = c .before .before .before in
+    let start = at-loop .before .before .before in
+    let a = start .args in (
       omega arith,
-      λ m. passed (anotherKeeps (a .setup) (rival (now (a .blocks)) (now (a .held)) m) (a .processor) (a .block)) (a .setup .processors) (c .before .before .before .loop .j) _
-          (c .before .before .before .loop .inv .1 m) (c .before .another-keeps .result) (omega arith) (c .before .another-keeps .ensures m) (c .if1 .left),
+      λ m. search-passed (anotherKeeps (a .setup) (rival (now (a .blocks)) (now (a .held)) m) (a .processor) (a .block)) (a .setup .processors) (at-loop .loop .j) _
+          (at-loop .loop .inv .1 m) (c .before .another-keeps .result) (omega arith) (c .before .another-keeps .ensures m) (c .if1 .left),
     )
 
 returns : tie.Need-returns Inv-loop μ-loop
@@ -45,8 +47,8 @@ returns c m =
     let n = a .setup .processors in
     let j = c .before .loop .j in
     ap (λ (z : ℕ). ltb z n)
-    (⊎-elim (λ w. ended P n j (first n P) (c .before .loop .inv .1 m) (w .left))
-    (λ w. found P n j (first n P) (c .before .loop .inv .1 m) (w .1 .result) (w .0 .taken) (w .1 .ensures m) (w .2 .taken)) (c .loop-test .came))
+    (⊎-elim (λ w. search-ended P n j (first n P) (c .before .loop .inv .1 m) (w .left))
+    (λ w. search-found P n j (first n P) (c .before .loop .inv .1 m) (w .1 .result) (w .0 .taken) (w .1 .ensures m) (w .2 .taken)) (c .loop-test .came))
     ∙ shared-is (a .setup) r (a .processor) (a .block)
 
 pub shared-spec : {M : Type 1} → statement M

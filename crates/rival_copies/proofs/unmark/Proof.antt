@@ -22,11 +22,12 @@ loop-holds : tie.Need-loop-holds Inv-loop μ-loop
 loop-holds c = (omega arith, refl, refl)
 
 loop-again : tie.Need-loop-again Inv-loop μ-loop
-loop-again c = (
-  omega arith,
-  c .before .before .unmark-copy .kept .1 .1 .1 .1 .1 .0 ∙ c .before .before .before .before .before .loop .inv .1,
-  c .before .before .unmark-copy .ensures (now (c .before .before .before .before .before .before .before .before .before .args .marks)) ∙ rw (add-one, ← (c .before .before .before .before .before .loop .inv .2)),
-)
+loop-again c =
+    let at-loop = c .before .before .before .before .before in (
+      omega arith,
+      c .before .before .unmark-copy .kept .1 .1 .1 .1 .1 .0 ∙ at-loop .loop .inv .1,
+      c .before .before .unmark-copy .ensures (now (at-loop .before .before .before .before .args .marks)) ∙ rw (add-one, ← (at-loop .loop .inv .2)),
+    )
 
 same-length : tie.Need-same-length Inv-loop μ-loop
 same-length c = c .before .loop .inv .1
