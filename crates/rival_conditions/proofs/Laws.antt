@@ -1,31 +1,31 @@
--- 3 and 8 come before another number.
+-- 3 and 8 come before another number: from protocol's laws of the first that refuses.
 use Prim.Native.Nat.{ℕ}
-use mathlib.Core.Path.{_≡_, refl}
+use mathlib.Core.Path.{_≡_, refl, sym, ap, _∙_}
 use mathlib.Core.Logic.{_≢_}
 use mathlib.Core.Bool.{Bool, true, false, cond}
-use native.Mathlib.Omega.{arith}
 use lib.Dec.{ltb}
-use Rattle.protocol.specs.Refusals.{noRefusal, noSuchProcessor, noSuchBlock}
+use Rattle.protocol.specs.Refusals.{noRefusal, firstOf, noSuchProcessor, noSuchBlock}
 use Rattle.protocol.specs.Rival.{moveRefusal}
 use Rattle.protocol.specs.declared.Setup.{Setup}
 use Rattle.protocol.specs.declared.Block.{Block}
+use Rattle.protocol.proofs.Refusals.{first-refuses, first-passes}
 
-refused : (c d : Bool) (n x : ℕ) → n ≡ cond c (cond d noRefusal noSuchBlock) noSuchProcessor → n ≢ 0 → n ≡ cond c (cond d x noSuchBlock) noSuchProcessor
-refused true true n x e ne = absurd (ne e)
-refused true false n x e ne = e
-refused false d n x e ne = e
-
-passed : (c d : Bool) (n x : ℕ) → n ≡ cond c (cond d noRefusal noSuchBlock) noSuchProcessor → n ≡ 0 → x ≡ cond c (cond d x noSuchBlock) noSuchProcessor
-passed true true n x e z = refl
-passed true false n x e z = absurd (omega arith)
-passed false d n x e z = absurd (omega arith)
+move-first : (s : Setup) (i : ℕ) (b : Block) (x : ℕ) → moveRefusal s i b x ≡ firstOf (moveRefusal s i b noRefusal) x
+unfolding moveRefusal
+move-first s i b x = go (ltb i (s .processors)) (ltb (b .0) (s .blocks))
+  where
+    go : (c d : Bool) → cond c (cond d x noSuchBlock) noSuchProcessor ≡ firstOf (cond c (cond d noRefusal noSuchBlock) noSuchProcessor) x
+    go true true = refl
+    go true false = refl
+    go false d = refl
 
 -- n is 3, 8 or none of them
 module _ (s : Setup) (i : ℕ) (b : Block) (n : ℕ) (is : n ≡ moveRefusal s i b noRefusal) where
-  pub move-refused : n ≢ 0 → (x : ℕ) → n ≡ moveRefusal s i b x
-  unfolding moveRefusal
-  move-refused ne x = refused (ltb i (s .processors)) (ltb (b .0) (s .blocks)) n x is ne
+  move-is : (x : ℕ) → moveRefusal s i b x ≡ firstOf n x
+  move-is x = move-first s i b x ∙ ap (λ z. firstOf z x) (sym is)
 
-  pub move-passed : n ≡ 0 → (x : ℕ) → x ≡ moveRefusal s i b x
-  unfolding moveRefusal
-  move-passed z x = passed (ltb i (s .processors)) (ltb (b .0) (s .blocks)) n x is z
+  pub move-refused : n ≢ noRefusal → (x : ℕ) → n ≡ moveRefusal s i b x
+  move-refused d x = sym (move-is x ∙ first-refuses n x d)
+
+  pub move-passed : n ≡ noRefusal → (x : ℕ) → x ≡ moveRefusal s i b x
+  move-passed e x = sym (move-is x ∙ first-passes n x e)

@@ -1,23 +1,22 @@
 // What an entry costs, and when it is refused.
-use engine_holders::slot;
 use protocol::Block;
 use protocol::Entry;
+use protocol::Operation;
 use protocol::Request;
 use protocol::Setup;
 use rival_copies::keeps;
 use rival_copies::keeps_at;
 use rival_copies::shared;
 ghost use mathlib.Core.Path.{_≡_};
-ghost use mathlib.Core.Bool.{not, _&&_};
+ghost use mathlib.Core.Bool.{cond};
 ghost use mathlib.Core.List.{List, []};
-ghost use Prim.Native.Nat.{ℕ};
+ghost use Prim.Native.Nat.{ℕ, _<_};
 ghost use lib.ListN.{length};
-ghost use Rattle.protocol.specs.Refusals.{noRefusal};
+ghost use Rattle.protocol.specs.Refusals.{noRefusal, unless, completionNotHeld};
 ghost use Rattle.protocol.specs.Board.{Fits, slots};
-ghost use Rattle.protocol.specs.Requests.{isWrite};
 ghost use Rattle.protocol.specs.Accounts.{cycles};
-ghost use Rattle.protocol.specs.Rival.{Rival, rival, RivalSized, completionCycles, cost, moveRefusal, completionRefusal, refusal};
-ghost use Rattle.rival_copies.specs.Copies.{lent};
+ghost use Rattle.protocol.specs.Rival.{Rival, rival, RivalSized, keeps, shared, completionCycles, cost, moveRefusal, readyRefusal, completionRefusal, refusal};
+ghost use Rattle.rival_copies.specs.Copies.{rivalLent, rivalBefore, rivalMarked};
 
 // ---- what an entry costs
 
@@ -34,6 +33,28 @@ pub fn cost(setup: Setup, entry: Entry) -> u32
     }
 }
 
+// The cycles of a completed write of a block.
+fn write_cycles(
+    setup: Setup,
+    processor: u32,
+    block: Block,
+    broadcast: bool,
+    blocks: &[u32],
+    held: &[u32],
+) -> u32
+    requires { ⌜ Fits setup ⌝ }
+    requires { ⌜ (length (now blocks) ≡ slots setup) × (length (now held) ≡ slots setup) ⌝ }
+    ensures { λ r. ⌜ ((m : List ℕ) → r ≡ cond broadcast 1 (cond (shared setup (rivalMarked blocks held m) processor block) 1 0)) ⌝ }
+{
+    if broadcast {
+        return 1;
+    }
+    if !shared(setup, processor, block, blocks, held) {
+        return 0;
+    }
+    1
+}
+
 // The cycles of a completion.
 pub fn completion_cycles(
     setup: Setup,
@@ -44,19 +65,16 @@ pub fn completion_cycles(
 ) -> u32
     requires { ⌜ Fits setup ⌝ }
     requires { ⌜ (length (now blocks) ≡ slots setup) × (length (now held) ≡ slots setup) ⌝ }
-    ensures { λ r. ⌜ ((m : List ℕ) → r ≡ completionCycles setup (rival (now (blocks .entry)) (now (held .entry)) m) request broadcast) ⌝ }
+    ensures { λ r. ⌜ ((m : List ℕ) → r ≡ completionCycles setup (rivalMarked blocks held m) request broadcast) ⌝ }
 {
-    if !request.is_write() {
-        return 0;
+    let operation = request.operation;
+    match operation {
+        Operation::Read(_) => 0,
+        Operation::Write(v, _) => {
+            let block = setup.block_of(v);
+            write_cycles(setup, request.processor, block, broadcast, blocks, held)
+        }
     }
-    if broadcast {
-        return 1;
-    }
-    let block = setup.target(request);
-    if !shared(setup, request.processor, block, blocks, held) {
-        return 0;
-    }
-    1
 }
 
 // ---- the conditions, in the order of checks
@@ -84,7 +102,7 @@ fn fetch_refusal(setup: Setup, processor: u32, block: Block, held: &[u32]) -> u3
     if n != protocol::NO_REFUSAL {
         return n;
     }
-    let k = slot(setup, processor, block);
+    let k = setup.slot(processor, block);
     if held[k] != 0 {
         return protocol::LINE_IN_USE;
     }
@@ -101,7 +119,7 @@ fn write_back_refusal(
 ) -> u32
     requires { ⌜ Fits setup ⌝ }
     requires { ⌜ (length (now blocks) ≡ slots setup) × (length (now held) ≡ slots setup) ⌝ }
-    ensures { λ r. ⌜ ((m : List ℕ) → r ≡ refusal setup (rival (now (blocks .entry)) (now (held .entry)) m) [] (Entry.WriteBack processor block)) ⌝ }
+    ensures { λ r. ⌜ ((m : List ℕ) → r ≡ refusal setup (rivalMarked blocks held m) [] (Entry.WriteBack processor block)) ⌝ }
 {
     let n = move_refusal(setup, processor, block);
     if n != protocol::NO_REFUSAL {
@@ -123,14 +141,14 @@ fn drop_refusal(
     marks: &[u32],
 ) -> u32
     requires { ⌜ Fits setup ⌝ }
-    requires { ⌜ RivalSized setup (lent blocks held marks) ⌝ }
-    ensures { λ r. ⌜ r ≡ refusal setup (lent (blocks .entry) (held .entry) (marks .entry)) [] (Entry.Drop processor block) ⌝ }
+    requires { ⌜ RivalSized setup (rivalLent blocks held marks) ⌝ }
+    ensures { λ r. ⌜ r ≡ refusal setup (rivalBefore blocks held marks) [] (Entry.Drop processor block) ⌝ }
 {
     let n = move_refusal(setup, processor, block);
     if n != protocol::NO_REFUSAL {
         return n;
     }
-    let k = slot(setup, processor, block);
+    let k = setup.slot(processor, block);
     if !keeps_at(k, block, blocks, held) {
         return protocol::BLOCK_NOT_HELD;
     }
@@ -143,8 +161,8 @@ fn drop_refusal(
 // The refusal of an entry where no request is left: 26 at a completion.
 pub fn refusal(setup: Setup, entry: Entry, blocks: &[u32], held: &[u32], marks: &[u32]) -> u32
     requires { ⌜ Fits setup ⌝ }
-    requires { ⌜ RivalSized setup (lent blocks held marks) ⌝ }
-    ensures { λ r. ⌜ r ≡ refusal setup (lent (blocks .entry) (held .entry) (marks .entry)) [] entry ⌝ }
+    requires { ⌜ RivalSized setup (rivalLent blocks held marks) ⌝ }
+    ensures { λ r. ⌜ r ≡ refusal setup (rivalBefore blocks held marks) [] entry ⌝ }
 {
     match entry {
         Entry::Fetch(i, b) => fetch_refusal(setup, i, b, held),
@@ -155,17 +173,49 @@ pub fn refusal(setup: Setup, entry: Entry, blocks: &[u32], held: &[u32], marks: 
     }
 }
 
-// Whether a read would be completed by broadcast.
-fn broadcasts_read(request: Request, broadcast: bool) -> bool
-    ensures { λ r. ⌜ r ≡ broadcast && not (isWrite request) ⌝ }
+// 27 at the completion of an operation on a block.
+fn held_refusal(setup: Setup, processor: u32, block: Block, blocks: &[u32], held: &[u32]) -> u32
+    requires { ⌜ Fits setup ⌝ }
+    requires { ⌜ processor < setup .processors ⌝ }
+    requires { ⌜ (length (now blocks) ≡ slots setup) × (length (now held) ≡ slots setup) ⌝ }
+    ensures { λ r. ⌜ ((m : List ℕ) → r ≡ unless (keeps setup (rivalMarked blocks held m) processor block) completionNotHeld noRefusal) ⌝ }
 {
-    if !broadcast {
-        return false;
+    if !keeps(setup, processor, block, blocks, held) {
+        return protocol::COMPLETION_NOT_HELD;
     }
-    !request.is_write()
+    protocol::NO_REFUSAL
 }
 
-// At a completion 3, 4, 9, 27.
+// At a completion 9, 27.
+fn ready_refusal(
+    setup: Setup,
+    processor: u32,
+    operation: Operation,
+    broadcast: bool,
+    blocks: &[u32],
+    held: &[u32],
+) -> u32
+    requires { ⌜ Fits setup ⌝ }
+    requires { ⌜ processor < setup .processors ⌝ }
+    requires { ⌜ (length (now blocks) ≡ slots setup) × (length (now held) ≡ slots setup) ⌝ }
+    ensures { λ r. ⌜ ((m : List ℕ) → r ≡ readyRefusal setup (rivalMarked blocks held m) processor operation broadcast) ⌝ }
+{
+    match operation {
+        Operation::Read(v) => {
+            if broadcast {
+                return protocol::READ_BY_BROADCAST;
+            }
+            let block = setup.block_of(v);
+            held_refusal(setup, processor, block, blocks, held)
+        }
+        Operation::Write(v, _) => {
+            let block = setup.block_of(v);
+            held_refusal(setup, processor, block, blocks, held)
+        }
+    }
+}
+
+// At a completion 3, 4, then these.
 pub fn completion_refusal(
     setup: Setup,
     request: Request,
@@ -175,21 +225,12 @@ pub fn completion_refusal(
 ) -> u32
     requires { ⌜ Fits setup ⌝ }
     requires { ⌜ (length (now blocks) ≡ slots setup) × (length (now held) ≡ slots setup) ⌝ }
-    ensures { λ r. ⌜ ((m : List ℕ) → r ≡ completionRefusal setup (rival (now (blocks .entry)) (now (held .entry)) m) request broadcast) ⌝ }
+    ensures { λ r. ⌜ ((m : List ℕ) → r ≡ completionRefusal setup (rivalMarked blocks held m) request broadcast) ⌝ }
 {
     if request.processor >= setup.processors {
         return protocol::NO_SUCH_PROCESSOR;
     }
-    let variable = request.variable();
-    if variable.0 >= setup.variable_count() {
-        return protocol::NO_SUCH_VARIABLE;
-    }
-    if broadcasts_read(request, broadcast) {
-        return protocol::READ_BY_BROADCAST;
-    }
-    let block = setup.target(request);
-    if !keeps(setup, request.processor, block, blocks, held) {
-        return protocol::COMPLETION_NOT_HELD;
-    }
-    protocol::NO_REFUSAL
+    let operation = request.operation;
+    let next = ready_refusal(setup, request.processor, operation, broadcast, blocks, held);
+    setup.named_refusal(operation, next)
 }

@@ -9,7 +9,7 @@ use Rattle.protocol.specs.Lists.{at}
 use Rattle.protocol.specs.Refusals.{noRefusal, blockNotHeld, dropOfMarked}
 use Rattle.protocol.specs.Board.{slot}
 use Rattle.protocol.specs.Rival.{keeps}
-use Rattle.rival_copies.specs.Copies.{lent}
+use Rattle.rival_copies.specs.Copies.{rivalLent}
 use Rattle.rival_copies.proofs.Laws.{names-processor}
 use Rattle.rival_conditions.proofs.Laws.{move-refused, move-passed}
 use Rattle.rival_conditions.proofs.drop_refusal.Statement.{statement}
@@ -19,7 +19,7 @@ returns : tie.Need-returns
 returns c =
     let a = c .before .before .before .before .before .args in
     move-refused (a .setup) (a .processor) (a .block) (c .before .move-refusal .result) (c .before .move-refusal .ensures) (c .if1 .taken)
-    (cond (keeps (a .setup) (lent (a .blocks) (a .held) (a .marks)) (a .processor) (a .block))
+    (cond (keeps (a .setup) (rivalLent (a .blocks) (a .held) (a .marks)) (a .processor) (a .block))
     (cond (eqb (at (now (a .marks)) (slot (a .setup) (a .processor) (a .block))) 0) noRefusal dropOfMarked) blockNotHeld)
 
 slot-requires : tie.Need-slot-requires
@@ -30,23 +30,28 @@ slot-requires c κs =
 returns-2 : tie.Need-returns-2
 unfolding keeps
 returns-2 c =
-    let a = c .before .before .before .before .before .before .before .before .args in
+    let at-if = c .before .before .before in
+    let a = at-if .before .before .before .before .before .args in
     rw (← (c .before .before .slot .ensures .value), ← (c .before .keeps-at .ensures (now (a .marks))), not-true (c .before .keeps-at .result) (c .if2 .taken))
-    (move-passed (a .setup) (a .processor) (a .block) (c .before .before .before .before .move-refusal .result) (c .before .before .before .before .move-refusal .ensures) (c .before .before .before .if1 .left) blockNotHeld)
+    (move-passed (a .setup) (a .processor) (a .block) (at-if .before .move-refusal .result) (at-if .before .move-refusal .ensures) (at-if .if1 .left) blockNotHeld)
 
 returns-3 : tie.Need-returns-3
 unfolding keeps
 returns-3 c =
-    let a = c .before .before .before .before .before .before .before .before .before .before .args in
-    rw (← (c .before .before .before .before .slot .ensures .value), ← (c .before .before .before .keeps-at .ensures (now (a .marks))), not-false (c .before .before .before .keeps-at .result) (c .before .before .if2 .left), ne-eqb (at (now (a .marks)) (c .before .before .before .before .slot .result)) 0 (c .if3 .taken))
-    (move-passed (a .setup) (a .processor) (a .block) (c .before .before .before .before .before .before .move-refusal .result) (c .before .before .before .before .before .before .move-refusal .ensures) (c .before .before .before .before .before .if1 .left) dropOfMarked)
+    let at-keeps-at = c .before .before .before in
+    let at-move-refusal = at-keeps-at .before .before .before in
+    let a = at-move-refusal .before .before .before .before .args in
+    rw (← (at-keeps-at .before .slot .ensures .value), ← (at-keeps-at .keeps-at .ensures (now (a .marks))), not-false (at-keeps-at .keeps-at .result) (c .before .before .if2 .left), ne-eqb (at (now (a .marks)) (at-keeps-at .before .slot .result)) 0 (c .if3 .taken))
+    (move-passed (a .setup) (a .processor) (a .block) (at-move-refusal .move-refusal .result) (at-move-refusal .move-refusal .ensures) (at-keeps-at .before .before .if1 .left) dropOfMarked)
 
 returns-4 : tie.Need-returns-4
 unfolding keeps
 returns-4 c =
-    let a = c .before .before .before .before .before .before .before .before .before .before .args in
-    rw (← (c .before .before .before .before .slot .ensures .value), ← (c .before .before .before .keeps-at .ensures (now (a .marks))), not-false (c .before .before .before .keeps-at .result) (c .before .before .if2 .left), eq-eqb (at (now (a .marks)) (c .before .before .before .before .slot .result)) 0 (c .if3 .left))
-    (move-passed (a .setup) (a .processor) (a .block) (c .before .before .before .before .before .before .move-refusal .result) (c .before .before .before .before .before .before .move-refusal .ensures) (c .before .before .before .before .before .if1 .left) noRefusal)
+    let at-keeps-at = c .before .before .before in
+    let at-move-refusal = at-keeps-at .before .before .before in
+    let a = at-move-refusal .before .before .before .before .args in
+    rw (← (at-keeps-at .before .slot .ensures .value), ← (at-keeps-at .keeps-at .ensures (now (a .marks))), not-false (at-keeps-at .keeps-at .result) (c .before .before .if2 .left), eq-eqb (at (now (a .marks)) (at-keeps-at .before .slot .result)) 0 (c .if3 .left))
+    (move-passed (a .setup) (a .processor) (a .block) (at-move-refusal .move-refusal .result) (at-move-refusal .move-refusal .ensures) (at-keeps-at .before .before .if1 .left) noRefusal)
 
 pub drop-refusal-spec : {M : Type 1} → statement M
 drop-refusal-spec =

@@ -26,15 +26,17 @@ slot-requires c κs =
 
 returns-2 : tie.Need-returns-2
 returns-2 c b m =
-    let a = c .before .before .before .before .before .before .args in
+    let at-if = c .before .before .before in
+    let a = at-if .before .before .before .args in
     rw (← (c .before .before .slot .ensures .value), ne-eqb (at (now (a .held)) (c .before .before .slot .result)) 0 (c .if2 .taken))
-    (move-passed (a .setup) (a .processor) (a .block) (c .before .before .before .before .move-refusal .result) (c .before .before .before .before .move-refusal .ensures) (c .before .before .before .if1 .left) lineInUse)
+    (move-passed (a .setup) (a .processor) (a .block) (at-if .before .move-refusal .result) (at-if .before .move-refusal .ensures) (at-if .if1 .left) lineInUse)
 
 returns-3 : tie.Need-returns-3
 returns-3 c b m =
-    let a = c .before .before .before .before .before .before .args in
+    let at-if = c .before .before .before in
+    let a = at-if .before .before .before .args in
     rw (← (c .before .before .slot .ensures .value), eq-eqb (at (now (a .held)) (c .before .before .slot .result)) 0 (c .if2 .left))
-    (move-passed (a .setup) (a .processor) (a .block) (c .before .before .before .before .move-refusal .result) (c .before .before .before .before .move-refusal .ensures) (c .before .before .before .if1 .left) noRefusal)
+    (move-passed (a .setup) (a .processor) (a .block) (at-if .before .move-refusal .result) (at-if .before .move-refusal .ensures) (at-if .if1 .left) noRefusal)
 
 pub fetch-refusal-spec : {M : Type 1} → statement M
 fetch-refusal-spec =

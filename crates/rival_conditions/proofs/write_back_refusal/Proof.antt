@@ -24,15 +24,17 @@ keeps-requires c κs =
 
 returns-2 : tie.Need-returns-2
 returns-2 c m =
-    let a = c .before .before .before .before .before .before .args in
+    let at-move-refusal = c .before .before .before in
+    let a = at-move-refusal .before .before .before .args in
     rw (← (c .before .keeps .ensures m), not-true (c .before .keeps .result) (c .if2 .taken))
-    (move-passed (a .setup) (a .processor) (a .block) (c .before .before .before .move-refusal .result) (c .before .before .before .move-refusal .ensures) (c .before .before .if1 .left) blockNotHeld)
+    (move-passed (a .setup) (a .processor) (a .block) (at-move-refusal .move-refusal .result) (at-move-refusal .move-refusal .ensures) (c .before .before .if1 .left) blockNotHeld)
 
 returns-3 : tie.Need-returns-3
 returns-3 c m =
-    let a = c .before .before .before .before .before .before .args in
+    let at-move-refusal = c .before .before .before in
+    let a = at-move-refusal .before .before .before .args in
     rw (← (c .before .keeps .ensures m), not-false (c .before .keeps .result) (c .if2 .left))
-    (move-passed (a .setup) (a .processor) (a .block) (c .before .before .before .move-refusal .result) (c .before .before .before .move-refusal .ensures) (c .before .before .if1 .left) noRefusal)
+    (move-passed (a .setup) (a .processor) (a .block) (at-move-refusal .move-refusal .result) (at-move-refusal .move-refusal .ensures) (c .before .before .if1 .left) noRefusal)
 
 pub write-back-refusal-spec : {M : Type 1} → statement M
 write-back-refusal-spec =
