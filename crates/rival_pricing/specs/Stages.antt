@@ -6,7 +6,7 @@ use lib.Dec.{ltb, eqb}
 use Rattle.protocol.specs.Refusals.{noRefusal, requestsLeft}
 use Rattle.protocol.specs.Board.{Fits}
 use Rattle.protocol.specs.Accounts.{cycles}
-use Rattle.protocol.specs.Rival.{Rival, rival, RivalSized, noCopies, played, cost, refusal}
+use Rattle.protocol.specs.Rival.{Rival, RivalSized, noCopies, played, cost, refusal}
 use Rattle.protocol.specs.Pricer.{priceEntryLimit, priceRefusal}
 use Rattle.protocol.specs.declared.Setup.{Setup}
 use Rattle.protocol.specs.declared.Request.{Request}
@@ -40,12 +40,12 @@ awaits p e = ltb (p .next) (p .requests) && completes e
 
 -- ---- pricing and its tables between two entries
 
-pub record Stage : Type 0 where
+pub record PriceStage : Type 0 where
   pub progress : Pricing
   pub copies : Rival
 
-abbrev pub stage : Pricing → List ℕ → List ℕ → List ℕ → Stage
-stage p b h m = record { progress = p; copies = rival b h m }
+abbrev pub priceStage : Pricing → Rival → PriceStage
+priceStage p r = record { progress = p; copies = r }
 
 -- at place a of n entries, with k of m requests completed, at cost c
 abbrev pub pricingAt : ℕ → ℕ → ℕ → ℕ → ℕ → Pricing
@@ -60,6 +60,10 @@ pricingAt n m a k c = record {
   cost = c;
   answer = Accepted c;
 }
+
+-- at the next place: the entry was played at n cycles, and k requests are completed
+abbrev pub advanced : Pricing → ℕ → ℕ → Pricing
+advanced p k n = pricingAt (p .entries) (p .requests) (p .at + 1) k (p .cost + n)
 
 -- it waits for the request of a completion
 abbrev pub waiting : Pricing → Bool → Pricing
@@ -76,8 +80,8 @@ waiting p byBroadcast = record {
 }
 
 -- it stops, refused by n at place k
-abbrev pub stopped : Pricing → ℕ → ℕ → Pricing
-stopped p n k = record {
+abbrev pub pricingStopped : Pricing → ℕ → ℕ → Pricing
+pricingStopped p n k = record {
   going = false;
   completing = false;
   «by_broadcast» = false;
@@ -90,42 +94,40 @@ stopped p n k = record {
 }
 
 -- "Any later refusal of the pricer zeroes its tables"
-abbrev pub rejected : Setup → Pricing → ℕ → ℕ → Stage
-rejected s p n k = record { progress = stopped p n k; copies = noCopies s }
+abbrev pub rejected : Setup → Pricing → ℕ → ℕ → PriceStage
+rejected s p n k = priceStage (pricingStopped p n k) (noCopies s)
 
 -- at a place: after the last entry 28 if requests are left, and the place is the schedule's length
-unfoldable pub reached : Setup → Pricing → Rival → Stage
+unfoldable pub reached : Setup → Pricing → Rival → PriceStage
 reached s p r =
-    cond (ltb (p .at) (p .entries)) (record { progress = p; copies = r })
-    (cond (ltb (p .next) (p .requests)) (rejected s p requestsLeft (p .entries)) (record { progress = p; copies = r }))
+    cond (ltb (p .at) (p .entries)) (priceStage p r)
+    (cond (ltb (p .next) (p .requests)) (rejected s p requestsLeft (p .entries)) (priceStage p r))
 
 -- after entry e, where qs are the requests left, and k are completed once it is played
-unfoldable pub turned : Setup → Stage → List Request → Entry → ℕ → Stage
-turned s x qs e k =
+unfoldable pub priceTurned : Setup → PriceStage → List Request → Entry → ℕ → PriceStage
+priceTurned s x qs e k =
     cond (eqb (refusal s (x .copies) qs e) noRefusal)
-    (reached s
-    (pricingAt (x .progress .entries) (x .progress .requests) (x .progress .at + 1) k (x .progress .cost + cycles (cost s (x .copies) qs e)))
-    (played s (x .copies) qs e))
+    (reached s (advanced (x .progress) k (cycles (cost s (x .copies) qs e))) (played s (x .copies) qs e))
     (rejected s (x .progress) (refusal s (x .copies) qs e) (x .progress .at))
 
 -- ---- the steps
 
 -- before the first of n entries, for m requests
-unfoldable pub begun : Setup → Rival → ℕ → ℕ → Stage
-begun s lent n m =
-    cond (eqb (priceRefusal s lent n m) noRefusal) (reached s (pricingAt n m 0 0 0) (noCopies s))
-    (record { progress = stopped (pricingAt n m 0 0 0) (priceRefusal s lent n m) 0; copies = lent })
+unfoldable pub priceBegun : Setup → Rival → ℕ → ℕ → PriceStage
+priceBegun s r n m =
+    cond (eqb (priceRefusal s r n m) noRefusal) (reached s (pricingAt n m 0 0 0) (noCopies s))
+    (priceStage (pricingStopped (pricingAt n m 0 0 0) (priceRefusal s r n m) 0) r)
 
 -- an entry: a completion waits for its request if one is left
-unfoldable pub took : Setup → Stage → Entry → Stage
+unfoldable pub took : Setup → PriceStage → Entry → PriceStage
 took s x e =
     cond (awaits (x .progress) e)
-    (record { progress = waiting (x .progress) (broadcasts e); copies = x .copies })
-    (turned s x [] e (x .progress .next))
+    (priceStage (waiting (x .progress) (broadcasts e)) (x .copies))
+    (priceTurned s x [] e (x .progress .next))
 
 -- the request of a completion
-unfoldable pub completed : Setup → Stage → Request → Stage
-completed s x q = turned s x (q ∷ []) (completion (x .progress .«by_broadcast»)) (x .progress .next + 1)
+unfoldable pub completed : Setup → PriceStage → Request → PriceStage
+completed s x q = priceTurned s x (q ∷ []) (completion (x .progress .«by_broadcast»)) (x .progress .next + 1)
 
 -- ---- what the steps ask
 
@@ -136,7 +138,7 @@ pub record Paid (p : Pricing) (n : ℕ) : Type 0 where
   pub entry : n ≤ 16
 
 -- an entry is at the place, and the cost so far is at most 16 an entry: so it does not wrap
-pub record Ready (s : Setup) (x : Stage) : Type 0 where
+pub record PriceReady (s : Setup) (x : PriceStage) : Type 0 where
   pub fits : Fits s
   pub sized : RivalSized s (x .copies)
   pub within : x .progress .at < x .progress .entries
@@ -144,6 +146,6 @@ pub record Ready (s : Setup) (x : Stage) : Type 0 where
   pub cheap : x .progress .cost ≤ 16 * x .progress .at
 
 -- and a request is left to complete
-pub record Due (s : Setup) (x : Stage) : Type 0 where
-  pub ready : Ready s x
+pub record Due (s : Setup) (x : PriceStage) : Type 0 where
+  pub ready : PriceReady s x
   pub left : x .progress .next < x .progress .requests

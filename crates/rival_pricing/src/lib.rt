@@ -5,18 +5,15 @@ use protocol::PriceAnswer;
 use protocol::Setup;
 ghost use mathlib.Core.Path.{_≡_};
 ghost use mathlib.Core.Bool.{_&&_};
-ghost use Prim.Native.Nat.{_+_};
-ghost use lib.Dec.{leb, eqb};
-ghost use Rattle.protocol.specs.Board.{Fits, slots};
-ghost use Rattle.protocol.specs.Rival.{RivalSized, noCopies};
+ghost use lib.Dec.{leb};
+ghost use Rattle.protocol.specs.Board.{Fits};
+ghost use Rattle.protocol.specs.Rival.{rivalSized, RivalSized, noCopies};
 ghost use Rattle.protocol.specs.Pricer.{priceRequestLimit, priceEntryLimit, priceRefusal};
-ghost use Rattle.rival_copies.specs.Copies.{lent};
-ghost use Rattle.rival_pricing.specs.Stages.{completes, broadcasts, awaits, stage, pricingAt, stopped, waiting, rejected, reached, Paid};
+ghost use Rattle.rival_copies.specs.Copies.{rivalLent, rivalBefore, rivalAfter};
+ghost use Rattle.rival_pricing.specs.Stages.{completes, broadcasts, awaits, priceStage, pricingAt, advanced, waiting, pricingStopped, rejected, reached, Paid};
 
-// Condition 5 refuses more.
-pub const MOST_REQUESTS: usize = 1000000;
-
-pub const MOST_ENTRIES: usize = 4000000;
+// The entries that the pricer takes.
+const PRICE_ENTRY_LIMIT: usize = 4000000;
 
 // Pricing between two entries: whether it goes on; whether the entry at `at` is a completion that waits for its request, and of which kind;
 // the places in the two lists, their lengths, the cost so far, and the answer if it stops.
@@ -107,8 +104,8 @@ pub fn waiting(p: Pricing, broadcast: bool) -> Pricing
 }
 
 // It stops, refused by a number at a place.
-pub fn stopped(p: Pricing, number: u32, place: usize) -> Pricing
-    ensures { λ r. ⌜ r ≡ stopped p number place ⌝ }
+pub fn stop_pricing(p: Pricing, number: u32, place: usize) -> Pricing
+    ensures { λ r. ⌜ r ≡ pricingStopped p number place ⌝ }
 {
     Pricing {
         going: false,
@@ -125,8 +122,8 @@ pub fn stopped(p: Pricing, number: u32, place: usize) -> Pricing
 
 // Every table becomes 0.
 pub fn clear_all<'a>(setup: Setup, blocks: &'a mut [u32], held: &'a mut [u32], marks: &'a mut [u32])
-    requires { ⌜ RivalSized setup (lent blocks held marks) ⌝ }
-    ensures { λ _. ⌜ lent (blocks .exit) (held .exit) (marks .exit) ≡ noCopies setup ⌝ }
+    requires { ⌜ RivalSized setup (rivalLent blocks held marks) ⌝ }
+    ensures { λ _. ⌜ rivalAfter blocks held marks ≡ noCopies setup ⌝ }
 {
     clear(blocks);
     clear(held);
@@ -143,11 +140,11 @@ pub fn reject<'a>(
     number: u32,
     place: usize,
 ) -> Pricing
-    requires { ⌜ RivalSized setup (lent blocks held marks) ⌝ }
-    ensures { λ r. ⌜ stage r (now (blocks .exit)) (now (held .exit)) (now (marks .exit)) ≡ rejected setup p number place ⌝ }
+    requires { ⌜ RivalSized setup (rivalLent blocks held marks) ⌝ }
+    ensures { λ r. ⌜ priceStage r (rivalAfter blocks held marks) ≡ rejected setup p number place ⌝ }
 {
     clear_all(setup, blocks, held, marks);
-    stopped(p, number, place)
+    stop_pricing(p, number, place)
 }
 
 // After the last entry 28 if requests are left.
@@ -158,8 +155,8 @@ pub fn reach<'a>(
     marks: &'a mut [u32],
     p: Pricing,
 ) -> Pricing
-    requires { ⌜ RivalSized setup (lent blocks held marks) ⌝ }
-    ensures { λ r. ⌜ stage r (now (blocks .exit)) (now (held .exit)) (now (marks .exit)) ≡ reached setup p (lent (blocks .entry) (held .entry) (marks .entry)) ⌝ }
+    requires { ⌜ RivalSized setup (rivalLent blocks held marks) ⌝ }
+    ensures { λ r. ⌜ priceStage r (rivalAfter blocks held marks) ≡ reached setup p (rivalBefore blocks held marks) ⌝ }
 {
     if p.at < p.entries {
         return p;
@@ -188,9 +185,9 @@ pub fn advance<'a>(
     next: usize,
     cycles: u32,
 ) -> Pricing
-    requires { ⌜ RivalSized setup (lent blocks held marks) ⌝ }
+    requires { ⌜ RivalSized setup (rivalLent blocks held marks) ⌝ }
     requires { ⌜ Paid p cycles ⌝ }
-    ensures { λ r. ⌜ stage r (now (blocks .exit)) (now (held .exit)) (now (marks .exit)) ≡ reached setup (pricingAt (p .entries) (p .requests) (p .at + 1) next (p .cost + cycles)) (lent (blocks .entry) (held .entry) (marks .entry)) ⌝ }
+    ensures { λ r. ⌜ priceStage r (rivalAfter blocks held marks) ≡ reached setup (advanced p next cycles) (rivalBefore blocks held marks) ⌝ }
 {
     let after = pricing_at(p.entries, p.requests, p.at + 1, next, p.cost + cycles);
     reach(setup, blocks, held, marks, after)
@@ -198,29 +195,29 @@ pub fn advance<'a>(
 
 // ---- what is checked before the first entry
 
-// Whether tables of these lengths are let through by condition 2.
-fn lengths_fit(setup: Setup, blocks: usize, held: usize, marks: usize) -> bool
+// Whether condition 2 lets the tables through.
+fn is_sized(setup: Setup, blocks: &[u32], held: &[u32], marks: &[u32]) -> bool
     requires { ⌜ Fits setup ⌝ }
-    ensures { λ r. ⌜ r ≡ eqb blocks (slots setup) && eqb held (slots setup) && eqb marks (slots setup) ⌝ }
+    ensures { λ r. ⌜ r ≡ rivalSized setup (rivalBefore blocks held marks) ⌝ }
 {
     let count = setup.slot_count();
-    if blocks != count {
+    if blocks.len() != count {
         return false;
     }
-    if held != count {
+    if held.len() != count {
         return false;
     }
-    marks == count
+    marks.len() == count
 }
 
-// Whether lists of these lengths are let through by condition 5.
+// Whether condition 5 lets lists of these lengths through.
 fn few_enough(entries: usize, requests: usize) -> bool
     ensures { λ r. ⌜ r ≡ leb requests priceRequestLimit && leb entries priceEntryLimit ⌝ }
 {
-    if requests > MOST_REQUESTS {
+    if requests > protocol::REQUEST_LIMIT as usize {
         return false;
     }
-    entries <= MOST_ENTRIES
+    entries <= PRICE_ENTRY_LIMIT
 }
 
 // 1, 2, 5 for lists of these lengths.
@@ -232,12 +229,13 @@ pub fn price_refusal(
     entries: usize,
     requests: usize,
 ) -> u32
-    ensures { λ r. ⌜ r ≡ priceRefusal setup (lent (blocks .entry) (held .entry) (marks .entry)) entries requests ⌝ }
+    ensures { λ r. ⌜ r ≡ priceRefusal setup (rivalBefore blocks held marks) entries requests ⌝ }
 {
-    if !setup.in_range() {
-        return protocol::SETUP_OUT_OF_RANGE;
+    let refusal = setup.refusal();
+    if refusal != protocol::NO_REFUSAL {
+        return refusal;
     }
-    let fit = lengths_fit(setup, blocks.len(), held.len(), marks.len());
+    let fit = is_sized(setup, blocks, held, marks);
     let few = few_enough(entries, requests);
     if !fit {
         return protocol::WRONG_LENGTH;

@@ -9,10 +9,12 @@ use Rattle.rival_pricing.proofs.clear_all.Tie as tie
 returns : tie.Need-returns
 unfolding noCopies
 returns c =
-    let z = c .before .before .before .before .before .before .before .before .before .before .before .before .before .before .before .pre in
+    let at-clear = c .before .before .before .before .before .before in
+    let at-clear-2 = at-clear .before .before .before .before in
+    let z = at-clear-2 .before .before .before .before .before .pre in
     λ i. record {
-      blocks = (c .before .before .before .before .before .before .before .before .before .before .clear .ensures ∙ ap zeros (z .blocks)) i;
-      held = (c .before .before .before .before .before .before .clear2 .ensures ∙ ap zeros (z .held)) i;
+      blocks = (at-clear-2 .clear .ensures ∙ ap zeros (z .blocks)) i;
+      held = (at-clear .clear2 .ensures ∙ ap zeros (z .held)) i;
       marks = (c .before .before .clear3 .ensures ∙ ap zeros (z .marks)) i;
     }
 

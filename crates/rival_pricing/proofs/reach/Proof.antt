@@ -12,8 +12,10 @@ returns c = rw (lt-ltb (c .before .before .before .before .before .args .p .at) 
 returns-2 : tie.Need-returns-2
 unfolding reached
 returns-2 c =
-    let p = c .before .before .before .before .before .before .before .before .before .before .before .before .before .before .before .before .before .args .p in
-    rw (le-ltb (p .at) (p .entries) (c .before .before .before .before .before .before .before .before .before .before .before .before .if1 .left), lt-ltb (p .next) (p .requests) (c .before .before .before .before .before .before .before .before .before .before .if2 .taken)) (c .before .before .before .before .before .before .reject .ensures)
+    let at-reject = c .before .before .before .before .before .before in
+    let at-if = at-reject .before .before .before .before in
+    let p = at-if .before .before .before .before .before .before .before .args .p in
+    rw (le-ltb (p .at) (p .entries) (at-if .before .before .if1 .left), lt-ltb (p .next) (p .requests) (at-if .if2 .taken)) (at-reject .reject .ensures)
 
 returns-3 : tie.Need-returns-3
 unfolding reached

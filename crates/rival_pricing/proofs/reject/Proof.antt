@@ -4,7 +4,7 @@ use Rattle.rival_pricing.proofs.reject.Statement.{statement}
 use Rattle.rival_pricing.proofs.reject.Tie as tie
 
 returns : tie.Need-returns
-returns c = λ i. record { progress = c .stopped .ensures i; copies = c .before .before .before .before .before .before .before .clear-all .ensures i }
+returns c = λ i. record { progress = c .stop-pricing .ensures i; copies = c .before .before .before .before .before .before .before .clear-all .ensures i }
 
 pub reject-spec : {M : Type 1} → statement M
 reject-spec =
