@@ -1,82 +1,87 @@
--- The cases of each step, and what is known where 1, 2 and 5 let the lists through.
-use Prim.Native.Nat.{ℕ, _+_, _≤_}
+-- The cases of each step, what is known where 1, 2 and 5 let the lists through, and what an entry costs at most.
+-- From protocol's laws of choices and of the first that refuses.
+use Prim.Native.Nat.{ℕ, _≤_}
 use mathlib.Core.Path.{_≡_, refl, _∙_}
 use mathlib.Core.Logic.{_≢_}
-use mathlib.Core.Bool.{Bool, true, false, _&&_, cond}
+use mathlib.Core.Bool.{Bool, true, false, _&&_}
 use mathlib.Core.List.{List, [], _∷_}
 use native.Mathlib.Omega.{arith}
-use lib.ListN.{length}
-use lib.Dec.{leb, eqb}
+use lib.Dec.{leb}
 use borrow.Author.Tests.{leb-true, eqb-true, eq-eqb, ne-eqb}
-use Rattle.protocol.specs.Refusals.{noRefusal, setupOutOfRange, wrongLength, tooMany}
-use Rattle.protocol.specs.Board.{Fits, inRange, slots}
-use Rattle.protocol.specs.Requests.{isWrite, target}
+use Rattle.protocol.specs.Refusals.{noRefusal, unless, wrongLength, tooMany}
+use Rattle.protocol.specs.Board.{setupRefusal, Fits, blockOf}
 use Rattle.protocol.specs.Accounts.{cycles}
-use Rattle.protocol.specs.Rival.{Rival, RivalSized, noCopies, shared, played, completionCycles, cost, completionRefusal, refusal}
+use Rattle.protocol.specs.Rival.{Rival, rivalSized, RivalSized, noCopies, shared, played, completionBy, completionCycles, cost, completionRefusal, refusal}
 use Rattle.protocol.specs.Pricer.{priceRequestLimit, priceEntryLimit, priceRefusal}
 use Rattle.protocol.specs.declared.Setup.{Setup}
 use Rattle.protocol.specs.declared.Request.{Request}
+use Rattle.protocol.specs.declared.Operation.{Operation}
+use Rattle.protocol.specs.declared.Operation.the-variants.{Read, Write}
 use Rattle.protocol.specs.declared.Entry.{Entry}
 use Rattle.protocol.specs.declared.Entry.the-variants.{Fetch, WriteBack, Drop, Complete, CompleteByBroadcast}
 use Rattle.protocol.proofs.Laws.{both-true, three-true, chosen-zero, choice}
-use Rattle.protocol.proofs.Board.{inRange-fits}
+use Rattle.protocol.proofs.Board.{setup-fits}
+use Rattle.protocol.proofs.Refusals.{neither-refuses}
 use Rattle.rival_copies.specs.Copies.{completion}
-use Rattle.rival_pricing.specs.Stages.{awaits, broadcasts, Stage, pricingAt, waiting, stopped, rejected, reached, turned, begun, took}
+use Rattle.rival_pricing.specs.Stages.{awaits, broadcasts, PriceStage, priceStage, pricingAt, advanced, waiting, pricingStopped, rejected, reached, priceTurned, priceBegun, took}
 
 -- ---- 1, 2 and 5
 
+rival-sized : (s : Setup) (r : Rival) → rivalSized s r ≡ true → RivalSized s r
+unfolding rivalSized
+rival-sized s r e =
+    let size = three-true _ _ _ e in
+    record { blocks = eqb-true _ _ (size .0); held = eqb-true _ _ (size .1); marks = eqb-true _ _ (size .2) }
+
 -- what 1, 2 and 5 let through
-pub record Passed (s : Setup) (r : Rival) (n m : ℕ) : Type 0 where
+pub record PricePassed (s : Setup) (r : Rival) (n m : ℕ) : Type 0 where
   pub fits : Fits s
   pub sized : RivalSized s r
   pub few-entries : n ≤ priceEntryLimit
 
 module _ (s : Setup) (r : Rival) (n m : ℕ) where
-  pub price-passed : priceRefusal s r n m ≡ 0 → Passed s r n m
+  pub price-passed : priceRefusal s r n m ≡ noRefusal → PricePassed s r n m
   unfolding priceRefusal
   price-passed e =
-      let sizes = eqb (length (r .blocks)) (slots s) && eqb (length (r .held)) (slots s) && eqb (length (r .marks)) (slots s) in
-      let counts = leb m priceRequestLimit && leb n priceEntryLimit in
-      let one = chosen-zero (inRange s) (cond sizes (cond counts noRefusal tooMany) wrongLength) setupOutOfRange (λ z. absurd (omega arith)) e in
-      let two = chosen-zero sizes (cond counts noRefusal tooMany) wrongLength (λ z. absurd (omega arith)) (one .1) in
-      let five = chosen-zero counts noRefusal tooMany (λ z. absurd (omega arith)) (two .1) in
-      let size = three-true _ _ _ (two .0) in
-      let count = both-true (leb m priceRequestLimit) (leb n priceEntryLimit) (five .0) in
+      let few = leb m priceRequestLimit && leb n priceEntryLimit in
+      let one = neither-refuses (setupRefusal s) (unless (rivalSized s r) wrongLength (unless few tooMany noRefusal)) e in
+      let two = chosen-zero (rivalSized s r) (unless few tooMany noRefusal) wrongLength (omega arith) (one .1) in
+      let five = chosen-zero few noRefusal tooMany (omega arith) (two .1) in
       record {
-        fits = inRange-fits s (one .0);
-        sized = record { blocks = eqb-true _ _ (size .0); held = eqb-true _ _ (size .1); marks = eqb-true _ _ (size .2) };
-        few-entries = leb-true _ _ (count .1);
+        fits = setup-fits s (one .0);
+        sized = rival-sized s r (two .0);
+        few-entries = leb-true _ _ (both-true (leb m priceRequestLimit) (leb n priceEntryLimit) (five .0) .1);
       }
 
   module _ (x : ℕ) (is : x ≡ priceRefusal s r n m) where
-    pub begun-refused : x ≢ 0 → _≡_ {A = Stage} (record { progress = stopped (pricingAt n m 0 0 0) x 0; copies = r }) (begun s r n m)
-    unfolding begun
-    begun-refused ne = rw (← is, ne-eqb x 0 ne)
+    pub start-refused : x ≢ 0 → priceStage (pricingStopped (pricingAt n m 0 0 0) x 0) r ≡ priceBegun s r n m
+    unfolding priceBegun
+    start-refused ne = rw (← is, ne-eqb x 0 ne)
 
-    pub begun-passed : x ≡ 0 → reached s (pricingAt n m 0 0 0) (noCopies s) ≡ begun s r n m
-    unfolding begun
-    begun-passed z = rw (← is, eq-eqb x 0 z)
+    pub start-passed : x ≡ 0 → reached s (pricingAt n m 0 0 0) (noCopies s) ≡ priceBegun s r n m
+    unfolding priceBegun
+    start-passed z = rw (← is, eq-eqb x 0 z)
 
 -- ---- an entry
 
-module _ (s : Setup) (x : Stage) (qs : List Request) (e : Entry) (k n : ℕ) (is : n ≡ refusal s (x .copies) qs e) where
-  pub turned-refused : n ≢ 0 → rejected s (x .progress) n (x .progress .at) ≡ turned s x qs e k
-  unfolding turned
-  turned-refused ne = rw (← is, ne-eqb n 0 ne)
+module _ (s : Setup) (x : PriceStage) (qs : List Request) (e : Entry) (k n : ℕ) (is : n ≡ refusal s (x .copies) qs e) where
+  pub entry-refused : n ≢ 0 → rejected s (x .progress) n (x .progress .at) ≡ priceTurned s x qs e k
+  unfolding priceTurned
+  entry-refused ne = rw (← is, ne-eqb n 0 ne)
 
-  pub turned-played : n ≡ 0 → (c : ℕ) → c ≡ cycles (cost s (x .copies) qs e) → (r : Rival) → r ≡ played s (x .copies) qs e
-      → reached s (pricingAt (x .progress .entries) (x .progress .requests) (x .progress .at + 1) k (x .progress .cost + c)) r ≡ turned s x qs e k
-  unfolding turned
-  turned-played z c ec r er =
-      (λ i. reached s (pricingAt (x .progress .entries) (x .progress .requests) (x .progress .at + 1) k (x .progress .cost + ec i)) (er i))
+  pub entry-played : n ≡ 0 → (c : ℕ) → c ≡ cycles (cost s (x .copies) qs e) → (r : Rival) → r ≡ played s (x .copies) qs e
+      → reached s (advanced (x .progress) k c) r ≡ priceTurned s x qs e k
+  unfolding priceTurned
+  entry-played z c ec r er =
+      (λ i. reached s (advanced (x .progress) k (ec i)) (er i))
       ∙ rw (← is, eq-eqb n 0 z)
 
-module _ (s : Setup) (x : Stage) (e : Entry) (c : Bool) (is : c ≡ awaits (x .progress) e) where
-  pub took-waits : c ≡ true → _≡_ {A = Stage} (record { progress = waiting (x .progress) (broadcasts e); copies = x .copies }) (took s x e)
+module _ (s : Setup) (x : PriceStage) (e : Entry) (c : Bool) (is : c ≡ awaits (x .progress) e) where
+  pub took-waits : c ≡ true → priceStage (waiting (x .progress) (broadcasts e)) (x .copies) ≡ took s x e
   unfolding took
   took-waits t = rw (← is, t)
 
-  pub took-turns : c ≡ false → turned s x [] e (x .progress .next) ≡ took s x e
+  pub took-turns : c ≡ false → priceTurned s x [] e (x .progress .next) ≡ took s x e
   unfolding took
   took-turns f = rw (← is, f)
 
@@ -93,10 +98,14 @@ module _ (s : Setup) (r : Rival) (q : Request) where
 
 -- ---- no entry costs more than 16
 
+cheap-by : (s : Setup) (r : Rival) (i : ℕ) (o : Operation) (b : Bool) → completionBy s r i o b ≤ 1
+cheap-by s r i (Read v) b = omega arith
+cheap-by s r i (Write v x) b =
+    choice (λ z. z ≤ 1) b (λ _. omega arith) (λ _. choice (λ z. z ≤ 1) (shared s r i (blockOf s v)) (λ _. omega arith) (λ _. omega arith))
+
 pub cheap-completion : (s : Setup) (r : Rival) (q : Request) (b : Bool) → completionCycles s r q b ≤ 1
 unfolding completionCycles
-cheap-completion s r q b =
-    choice (λ z. z ≤ 1) (isWrite q && cond b true (shared s r (q .processor) (target s q))) (λ _. omega arith) (λ _. omega arith)
+cheap-completion s r q b = cheap-by s r (q .processor) (q .operation) b
 
 pub cheap : (s : Setup) → Fits s → (r : Rival) (qs : List Request) (e : Entry) → cycles (cost s r qs e) ≤ 16
 cheap s f r qs (Fetch i b) = omega (arith, f .few-fetch)

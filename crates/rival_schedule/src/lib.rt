@@ -17,11 +17,11 @@ use rival_pricing::price_refusal;
 use rival_pricing::pricing_at;
 use rival_pricing::reach;
 use rival_pricing::reject;
-use rival_pricing::stopped;
+use rival_pricing::stop_pricing;
 use rival_pricing::waiting;
 ghost use mathlib.Core.Path.{_≡_};
-ghost use Rattle.protocol.specs.Rival.{rival};
-ghost use Rattle.rival_pricing.specs.Stages.{stage, begun, took, completed, Ready, Due};
+ghost use Rattle.rival_copies.specs.Copies.{rivalLent, rivalBefore, rivalAfter};
+ghost use Rattle.rival_pricing.specs.Stages.{priceStage, priceBegun, took, completed, PriceReady, Due};
 
 // Before the first entry: 1, 2 and 5 change no table; else the tables are cleared.
 pub fn begin<'a>(
@@ -32,12 +32,12 @@ pub fn begin<'a>(
     entries: usize,
     requests: usize,
 ) -> Pricing
-    ensures { λ r. ⌜ stage r (now (blocks .exit)) (now (held .exit)) (now (marks .exit)) ≡ begun setup (rival (now (blocks .entry)) (now (held .entry)) (now (marks .entry))) entries requests ⌝ }
+    ensures { λ r. ⌜ priceStage r (rivalAfter blocks held marks) ≡ priceBegun setup (rivalBefore blocks held marks) entries requests ⌝ }
 {
     let p = pricing_at(entries, requests, 0, 0, 0);
     let n = price_refusal(setup, &*blocks, &*held, &*marks, entries, requests);
     if n != protocol::NO_REFUSAL {
-        return stopped(p, n, 0);
+        return stop_pricing(p, n, 0);
     }
     clear_all(setup, blocks, held, marks);
     reach(setup, blocks, held, marks, p)
@@ -52,8 +52,8 @@ pub fn take<'a>(
     p: Pricing,
     entry: Entry,
 ) -> Pricing
-    requires { ⌜ Ready setup (stage p (now blocks) (now held) (now marks)) ⌝ }
-    ensures { λ r. ⌜ stage r (now (blocks .exit)) (now (held .exit)) (now (marks .exit)) ≡ took setup (stage p (now (blocks .entry)) (now (held .entry)) (now (marks .entry))) entry ⌝ }
+    requires { ⌜ PriceReady setup (priceStage p (rivalLent blocks held marks)) ⌝ }
+    ensures { λ r. ⌜ priceStage r (rivalAfter blocks held marks) ≡ took setup (priceStage p (rivalBefore blocks held marks)) entry ⌝ }
 {
     if awaits(p, entry) {
         return waiting(p, broadcasts(entry));
@@ -75,8 +75,8 @@ pub fn complete<'a>(
     p: Pricing,
     request: Request,
 ) -> Pricing
-    requires { ⌜ Due setup (stage p (now blocks) (now held) (now marks)) ⌝ }
-    ensures { λ r. ⌜ stage r (now (blocks .exit)) (now (held .exit)) (now (marks .exit)) ≡ completed setup (stage p (now (blocks .entry)) (now (held .entry)) (now (marks .entry))) request ⌝ }
+    requires { ⌜ Due setup (priceStage p (rivalLent blocks held marks)) ⌝ }
+    ensures { λ r. ⌜ priceStage r (rivalAfter blocks held marks) ≡ completed setup (priceStage p (rivalBefore blocks held marks)) request ⌝ }
 {
     let n = completion_refusal(setup, request, p.by_broadcast, &*blocks, &*held);
     if n != protocol::NO_REFUSAL {

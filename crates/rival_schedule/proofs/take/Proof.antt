@@ -3,35 +3,40 @@ use borrow.Author.Needs.{needs}
 use mathlib.Core.Path.{sym, subst, _∙_}
 use mathlib.Core.List.{[]}
 use native.Mathlib.Omega.{arith}
-use denote.Ref.{now}
 use Rattle.protocol.specs.Rival.{Rival, RivalSized}
 use Rattle.protocol.proofs.Rival.{sized-played}
-use Rattle.rival_copies.specs.Copies.{lent}
-use Rattle.rival_pricing.specs.Stages.{stage}
-use Rattle.rival_schedule.proofs.Laws.{turned-refused, turned-played, took-waits, took-turns, cheap}
+use Rattle.rival_copies.specs.Copies.{rivalLent}
+use Rattle.rival_pricing.specs.Stages.{priceStage}
+use Rattle.rival_schedule.proofs.Laws.{entry-refused, entry-played, took-waits, took-turns, cheap}
 use Rattle.rival_schedule.proofs.take.Statement.{statement}
 use Rattle.rival_schedule.proofs.take.Tie as tie
 
 returns : tie.Need-returns
 returns c =
-    let a = c .before .before .before .before .before .before .before .args in
+    let at-awaits = c .before .before .before in
+    let a = at-awaits .before .before .before .before .args in
     rw (c .waiting .ensures, c .before .broadcasts .ensures)
-    (took-waits (a .setup) (stage (a .p) (now (a .blocks)) (now (a .held)) (now (a .marks))) (a .entry) (c .before .before .before .awaits .result) (c .before .before .before .awaits .ensures) (c .before .before .if1 .taken))
+    (took-waits (a .setup) (priceStage (a .p) (rivalLent (a .blocks) (a .held) (a .marks))) (a .entry) (at-awaits .awaits .result) (at-awaits .awaits .ensures) (c .before .before .if1 .taken))
 
 returns-2 : tie.Need-returns-2
 returns-2 c =
-    let a = c .before .before .before .before .before .before .before .before .before .before .before .before .before .before .before .before .before .before .before .before .args in
-    let x = stage (a .p) (now (a .blocks)) (now (a .held)) (now (a .marks)) in
-    c .before .before .before .before .before .before .reject .ensures
-    ∙ turned-refused (a .setup) x [] (a .entry) (a .p .next) (c .before .before .before .before .before .before .before .before .before .before .before .refusal .result) (c .before .before .before .before .before .before .before .before .before .before .before .refusal .ensures) (c .before .before .before .before .before .before .before .before .before .before .if2 .taken)
-    ∙ took-turns (a .setup) x (a .entry) (c .before .before .before .before .before .before .before .before .before .before .before .before .before .before .before .before .awaits .result) (c .before .before .before .before .before .before .before .before .before .before .before .before .before .before .before .before .awaits .ensures) (c .before .before .before .before .before .before .before .before .before .before .before .before .before .before .before .if1 .left)
+    let at-reject = c .before .before .before .before .before .before in
+    let at-if = at-reject .before .before .before .before in
+    let at-if-2 = at-if .before .before .before .before .before in
+    let a = at-if-2 .before .before .before .before .before .args in
+    let x = priceStage (a .p) (rivalLent (a .blocks) (a .held) (a .marks)) in
+    at-reject .reject .ensures
+    ∙ entry-refused (a .setup) x [] (a .entry) (a .p .next) (at-if .before .refusal .result) (at-if .before .refusal .ensures) (at-if .if2 .taken)
+    ∙ took-turns (a .setup) x (a .entry) (at-if-2 .before .awaits .result) (at-if-2 .before .awaits .ensures) (at-if-2 .if1 .left)
 
 advance-requires : tie.Need-advance-requires
 advance-requires c κs =
-    let a = c .before .before .before .before .before .before .before .before .before .before .before .before .before .before .before .before .before .before .before .before .before .before .before .before .args in
-    let k = c .before .before .before .before .before .before .before .before .before .before .before .before .before .before .before .before .before .before .before .before .before .before .before .before .pre in
-    let r = lent (a .blocks) (a .held) (a .marks) in (
-      subst (λ (z : Rival). RivalSized (a .setup) z) (sym (c .before .before .before .before .before .before .before .before .before .before .play .ensures)) (sized-played (a .setup) r (k .sized) [] (a .entry)),
+    let at-play = c .before .before .before .before .before .before .before .before .before .before in
+    let start = at-play .before .before .before .before .before .before .before .before .before .before .before .before .before .before in
+    let a = start .args in
+    let k = start .pre in
+    let r = rivalLent (a .blocks) (a .held) (a .marks) in (
+      subst (λ (z : Rival). RivalSized (a .setup) z) (sym (at-play .play .ensures)) (sized-played (a .setup) r (k .sized) [] (a .entry)),
       record {
         few = omega (arith, k .within, k .few);
         cheap = k .cheap;
@@ -41,12 +46,16 @@ advance-requires c κs =
 
 returns-3 : tie.Need-returns-3
 returns-3 c =
-    let a = c .before .before .before .before .before .before .before .before .before .before .before .before .before .before .before .before .before .before .before .before .before .before .before .before .before .before .before .before .before .before .before .args in
-    let x = stage (a .p) (now (a .blocks)) (now (a .held)) (now (a .marks)) in
-    c .before .before .before .before .before .before .advance .ensures
-    ∙ turned-played (a .setup) x [] (a .entry) (a .p .next) (c .before .before .before .before .before .before .before .before .before .before .before .before .before .before .before .before .before .before .before .before .before .before .refusal .result) (c .before .before .before .before .before .before .before .before .before .before .before .before .before .before .before .before .before .before .before .before .before .before .refusal .ensures) (c .before .before .before .before .before .before .before .before .before .before .before .before .before .before .before .before .before .before .before .before .before .if2 .left)
-    (c .before .before .before .before .before .before .before .cost .result) (c .before .before .before .before .before .before .before .cost .ensures (x .copies)) _ (c .before .before .before .before .before .before .before .before .before .before .before .before .before .before .before .before .before .play .ensures)
-    ∙ took-turns (a .setup) x (a .entry) (c .before .before .before .before .before .before .before .before .before .before .before .before .before .before .before .before .before .before .before .before .before .before .before .before .before .before .before .awaits .result) (c .before .before .before .before .before .before .before .before .before .before .before .before .before .before .before .before .before .before .before .before .before .before .before .before .before .before .before .awaits .ensures) (c .before .before .before .before .before .before .before .before .before .before .before .before .before .before .before .before .before .before .before .before .before .before .before .before .before .before .if1 .left)
+    let at-advance = c .before .before .before .before .before .before in
+    let at-play = at-advance .before .before .before .before .before .before .before .before .before .before .before in
+    let at-if = at-play .before .before .before .before in
+    let at-if-2 = at-if .before .before .before .before .before in
+    let a = at-if-2 .before .before .before .before .before .args in
+    let x = priceStage (a .p) (rivalLent (a .blocks) (a .held) (a .marks)) in
+    at-advance .advance .ensures
+    ∙ entry-played (a .setup) x [] (a .entry) (a .p .next) (at-if .before .refusal .result) (at-if .before .refusal .ensures) (at-if .if2 .left)
+    (at-advance .before .cost .result) (at-advance .before .cost .ensures (x .copies)) _ (at-play .play .ensures)
+    ∙ took-turns (a .setup) x (a .entry) (at-if-2 .before .awaits .result) (at-if-2 .before .awaits .ensures) (at-if-2 .if1 .left)
 
 pub take-spec : {M : Type 1} → statement M
 take-spec =
