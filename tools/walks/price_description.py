@@ -20,23 +20,23 @@ usize = Kind('usize')
 BUFFERS = ['blocks', 'held', 'marks']
 slices = [(n, Slice('u32')) for n in BUFFERS]
 buffers = ' '.join(BUFFERS)
-lent = '(lent %s)' % buffers
-stage = Stage('Stage', 'stage', 'progress', {n: '.copies .' + n for n in BUFFERS})
+lent = '(rival %s)' % buffers
+stage = Stage('PriceStage', 'priceStage {} (rival {} {} {})', 'progress', {n: '.copies .' + n for n in BUFFERS})
 
-RIVAL_SPEC = ('protocol', 'Rival', ['rival as lent'])
-here = '(stage p %s)' % buffers
+RIVAL_SPEC = ('protocol', 'Rival', ['rival'])
+here = '(priceStage p %s)' % lent
 
 
 def stages(*names):
-    return ('rival_pricing', 'Stages', ['Stage', 'stage'] + list(names))
+    return ('rival_pricing', 'Stages', ['PriceStage', 'priceStage'] + list(names))
 
 
 begin = Callee(HERE, KIT, 'rival_schedule', 'begin', 'Begin', [('setup', Setup)] + slices + [('entries', usize), ('requests', usize)], Pricing, 'mut',
-               'begun setup %s entries requests' % lent, None, [RIVAL_SPEC, stages('begun')], stage)
+               'priceBegun setup %s entries requests' % lent, None, [RIVAL_SPEC, stages('priceBegun')], stage)
 take = Callee(HERE, KIT, 'rival_schedule', 'take', 'Take', [('setup', Setup)] + slices + [('p', Pricing), ('entry', Entry)], Pricing, 'mut',
-              'took setup %s entry' % here, 'Ready setup %s' % here, [stages('Ready', 'took')], stage)
+              'took setup %s entry' % here, 'PriceReady setup %s' % here, [RIVAL_SPEC, stages('PriceReady', 'took')], stage)
 complete = Callee(HERE, KIT, 'rival_schedule', 'complete', 'Complete', [('setup', Setup)] + slices + [('p', Pricing), ('request', Request)], Pricing, 'mut',
-                  'completed setup %s request' % here, 'Due setup %s' % here, [stages('Due', 'completed')], stage)
+                  'completed setup %s request' % here, 'Due setup %s' % here, [RIVAL_SPEC, stages('Due', 'completed')], stage)
 
 inv = 'setup %s entries requests' % lent
 at_turn = '%s (x .at) (x .inv)' % inv
@@ -49,7 +49,7 @@ price = Loop(
     stage=stage, carried=Pricing, result=PriceAnswer, answer='answer', answer_at=8, size={'entries': 12, 'requests': 16}, flag='completing',
     begin=begin, begin_args={'entries': '(length entries)', 'requests': '(length requests)'},
     begin_is={'entries': '(refl, r-entries .0)', 'requests': '(refl, r-requests .0)'}, begin_ready=None,
-    first='(begun setup %s (length entries) (length requests))' % lent, inv_start='inv-start %s' % inv,
+    first='(priceBegun setup %s (length entries) (length requests))' % lent, inv_start='inv-start %s' % inv,
     arms=[dict(name='with-request', body='(then-of %s)' % body, callee=complete, list='requests', index='(x .at .progress .next)', none='no-request',
                args={'request': 'e'}, **{'is': {'request': 'e-is'}}, ready='(due %s go flag)' % at_turn, next='completed setup (x .at) e',
                inv='inv-completed %s go flag' % at_turn, falls='falls-completed %s go flag' % at_turn, within='at-request %s go flag' % at_turn),
@@ -59,7 +59,7 @@ price = Loop(
     done='(s .progress .answer ≡ priced %s) × (s .copies ≡ priceTables %s)' % (whole, whole), done_is='inv-end %s stopped' % at_turn,
     inv_params=['setup'] + BUFFERS + ['entries', 'requests'], inv=inv,
     laws=[(HERE, 'Loop', ['no-entry', 'no-request', 'Inv', 'μ', 'inv-start', 'inv-took', 'falls-took', 'inv-completed', 'falls-completed', 'at-entry', 'at-request', 'due', 'inv-end'])],
-    cites=[RIVAL_SPEC, ('protocol', 'Pricer', ['price as priced', 'priceTables']), stages('begun', 'took', 'completed')],
+    cites=[RIVAL_SPEC, ('protocol', 'Pricer', ['price as priced', 'priceTables']), stages('priceBegun', 'took', 'completed')],
     small=None)
 
 

@@ -28,7 +28,7 @@ use Rattle.protocol.proofs.Laws.{choice, both-true}
 use Rattle.protocol.proofs.Rival.{sized-noCopies, sized-played}
 use Rattle.rival_copies.specs.Copies.{completion}
 use Rattle.rival_pricing.specs.declared.Pricing.{Pricing}
-use Rattle.rival_pricing.specs.Stages.{completes, broadcasts, awaits, Stage, pricingAt, waiting, stopped, rejected, reached, turned, begun, took, completed, Ready, Due}
+use Rattle.rival_pricing.specs.Stages.{completes, broadcasts, awaits, PriceStage, priceStage, pricingAt, advanced, waiting, pricingStopped, rejected, reached, priceTurned, priceBegun, took, completed, PriceReady, Due}
 use Rattle.rival_schedule.proofs.Laws.{price-passed, cheap}
 
 -- what the lists have outside
@@ -84,8 +84,8 @@ is-completion CompleteByBroadcast t = refl
 
 module _ (s : Setup) (r : Rival) (es : List Entry) (qs : List Request) where
   -- while it goes on, a turn may be made, and the verdict on what is left is the whole verdict
-  pub record Goes (x : Stage) : Type 0 where
-    pub ready : Ready s x
+  pub record Goes (x : PriceStage) : Type 0 where
+    pub ready : PriceReady s x
     pub entries : x .progress .entries ≡ length es
     pub requests : x .progress .requests ≡ length qs
     pub passed : priceRefusal s r (length es) (length qs) ≡ noRefusal
@@ -96,13 +96,13 @@ module _ (s : Setup) (r : Rival) (es : List Entry) (qs : List Request) where
     pub request : x .progress .completing ≡ true → x .progress .next < length qs
     pub kind : x .progress .completing ≡ true → getD es (x .progress .at) no-entry ≡ completion (x .progress .«by_broadcast»)
 
-  pub record Inv (x : Stage) : Type 0 where
+  pub record Inv (x : PriceStage) : Type 0 where
     pub goes : x .progress .going ≡ true → Goes x
     pub answers : x .progress .going ≡ false → x .progress .answer ≡ price s r qs es
     pub leaves : x .progress .going ≡ false → x .copies ≡ priceTables s r qs es
 
   -- what falls with each turn
-  abbrev pub μ : Stage → ℕ
+  abbrev pub μ : PriceStage → ℕ
   μ x = cond (x .progress .going) (suc (cond (x .progress .completing) 0 1 + 2 * (length es - x .progress .at))) 0
 
   -- ---- a stage that is the last
@@ -117,7 +117,7 @@ module _ (s : Setup) (r : Rival) (es : List Entry) (qs : List Request) where
     tables-are = rw (eq-eqb (priceRefusal s r (length es) (length qs)) noRefusal passed)
 
     -- it stops, and is judged so
-    stops : (x : Stage) (v : Verdict) → v ≡ verdict s qs es → x .progress .going ≡ false → x .progress .answer ≡ answerTo v → x .copies ≡ copiesAfter s v → Inv x
+    stops : (x : PriceStage) (v : Verdict) → v ≡ verdict s qs es → x .progress .going ≡ false → x .progress .answer ≡ answerTo v → x .copies ≡ copiesAfter s v → Inv x
     stops x v e f p t = record {
       goes = λ go. absurd (both go f);
       answers = λ _. p ∙ ap answerTo e ∙ price-is;
@@ -131,7 +131,7 @@ module _ (s : Setup) (r : Rival) (es : List Entry) (qs : List Request) where
       abbrev p : Pricing
       p = pricingAt (length es) (length qs) a k c
 
-      going-on : ltb a (length es) ≡ true → Inv (record { progress = p; copies = y })
+      going-on : ltb a (length es) ≡ true → Inv (priceStage p y)
       going-on t = record {
         goes = λ _. record {
           ready = record { fits = ok; sized = sized; within = ltb-true a (length es) t; few = few; cheap = low };
@@ -161,9 +161,9 @@ module _ (s : Setup) (r : Rival) (es : List Entry) (qs : List Request) where
           (ap (λ (l : List Request). ending y b a (endRefusal l)) (sym (first-left qs k no-request (ltb-true k (length qs) t))) ∙ at-end f)
           refl (ap (Refused requestsLeft) (sym (place f))) refl
 
-      done : ltb a (length es) ≡ false → ltb k (length qs) ≡ false → Inv (record { progress = p; copies = y })
+      done : ltb a (length es) ≡ false → ltb k (length qs) ≡ false → Inv (priceStage p y)
       done f g =
-          stops (record { progress = p; copies = y }) (accepted y b)
+          stops (priceStage p y) (accepted y b)
           (ap (λ (l : List Request). ending y b a (endRefusal l)) (sym (drop-of-length-le qs {i = k} (ltb-false k (length qs) g))) ∙ at-end f)
           f (ap Accepted (sym cost-is)) refl
 
@@ -177,7 +177,7 @@ module _ (s : Setup) (r : Rival) (es : List Entry) (qs : List Request) where
 
   begins : (z : Bool) → eqb (priceRefusal s r (length es) (length qs)) noRefusal ≡ z
       → Inv (cond z (reached s (pricingAt (length es) (length qs) 0 0 0) (noCopies s))
-      (record { progress = stopped (pricingAt (length es) (length qs) 0 0 0) (priceRefusal s r (length es) (length qs)) 0; copies = r }))
+      (priceStage (pricingStopped (pricingAt (length es) (length qs) 0 0 0) (priceRefusal s r (length es) (length qs)) 0) r))
   unfolding price priceTables verdict
   begins true e =
       let z = eqb-true (priceRefusal s r (length es) (length qs)) noRefusal e in
@@ -189,13 +189,13 @@ module _ (s : Setup) (r : Rival) (es : List Entry) (qs : List Request) where
     leaves = λ _. rw e;
   }
 
-  pub inv-start : Inv (begun s r (length es) (length qs))
-  unfolding begun
+  pub inv-start : Inv (priceBegun s r (length es) (length qs))
+  unfolding priceBegun
   inv-start = begins (eqb (priceRefusal s r (length es) (length qs)) noRefusal) refl
 
   -- ---- a turn
 
-  module _ (x : Stage) (i : Inv x) (go : x .progress .going ≡ true) where
+  module _ (x : PriceStage) (i : Inv x) (go : x .progress .going ≡ true) where
     abbrev G : Goes x
     G = i .goes go
 
@@ -225,9 +225,9 @@ module _ (s : Setup) (r : Rival) (es : List Entry) (qs : List Request) where
           ∙ G .same
 
       plays : eqb n noRefusal ≡ true
-          → Inv (reached s (pricingAt (x .progress .entries) (x .progress .requests) (a + 1) m (x .progress .cost + cycles (cost s (x .copies) ps e))) (played s (x .copies) ps e))
+          → Inv (reached s (advanced (x .progress) m (cycles (cost s (x .copies) ps e))) (played s (x .copies) ps e))
       plays t =
-          let few : length es ≤ 4000000 = omega (arith, G .ready .few, G .entries) in
+          let few : length es ≤ priceEntryLimit = omega (arith, G .ready .few, G .entries) in
           let low = cheap s (G .ready .fits) (x .copies) ps e in
           rw (G .entries, G .requests)
           (inv-reached (G .passed) (G .ready .fits) few (a + 1) m (x .progress .cost + cycles (cost s (x .copies) ps e)) (played s (x .copies) ps e)
@@ -239,17 +239,17 @@ module _ (s : Setup) (r : Rival) (es : List Entry) (qs : List Request) where
           stops (G .passed) (rejected s (x .progress) n a) (refused n a)
           (sym (ap (λ (z : Bool). cond z (judged s (played s (x .copies) ps e) (drop m qs) (drop (a + 1) es) (a + 1) bill) (refused n a)) f) ∙ onward) refl refl refl
 
-      inv-turned : Inv (turned s x ps e m)
-      unfolding turned
+      inv-turned : Inv (priceTurned s x ps e m)
+      unfolding priceTurned
       inv-turned = choice Inv (eqb n noRefusal) plays refuses
 
     -- a stage after the entry at the place
-    record After (y : Stage) : Type 0 where
+    record After (y : PriceStage) : Type 0 where
       none-waits : y .progress .completing ≡ false
       next-place : y .progress .going ≡ true → y .progress .at ≡ a + 1
 
-    after-turned : (ps : List Request) (e : Entry) (m : ℕ) → After (turned s x ps e m)
-    unfolding turned reached
+    after-turned : (ps : List Request) (e : Entry) (m : ℕ) → After (priceTurned s x ps e m)
+    unfolding priceTurned reached
     after-turned ps e m =
         choice After (eqb (refusal s (x .copies) ps e) noRefusal)
         (λ _. choice After (ltb (a + 1) (x .progress .entries)) (λ _. record { none-waits = refl; next-place = λ _. refl })
@@ -257,7 +257,7 @@ module _ (s : Setup) (r : Rival) (es : List Entry) (qs : List Request) where
         (λ _. record { none-waits = refl; next-place = λ _. refl })))
         (λ _. record { none-waits = refl; next-place = λ t. absurd (true≢false (sym t)) })
 
-    falls-from : (y : Stage) → After y → (g : Bool) → y .progress .going ≡ g
+    falls-from : (y : PriceStage) → After y → (g : Bool) → y .progress .going ≡ g
         → cond g (suc (cond (y .progress .completing) 0 1 + 2 * (length es - y .progress .at))) 0 < suc (2 * (length es - a))
     falls-from y h true e = rw (h .none-waits, h .next-place e) (omega (arith, at-entry))
     falls-from y h false e = omega arith
@@ -265,9 +265,9 @@ module _ (s : Setup) (r : Rival) (es : List Entry) (qs : List Request) where
     falls-to : suc (2 * (length es - a)) ≤ μ x
     falls-to = rw go (omega arith)
 
-    falls-turned : (ps : List Request) (e : Entry) (m : ℕ) → μ (turned s x ps e m) < μ x
+    falls-turned : (ps : List Request) (e : Entry) (m : ℕ) → μ (priceTurned s x ps e m) < μ x
     falls-turned ps e m =
-        let f = falls-from (turned s x ps e m) (after-turned ps e m) (turned s x ps e m .progress .going) refl in
+        let f = falls-from (priceTurned s x ps e m) (after-turned ps e m) (priceTurned s x ps e m .progress .going) refl in
         omega (arith, f, falls-to)
 
     -- ---- an entry
@@ -276,7 +276,7 @@ module _ (s : Setup) (r : Rival) (es : List Entry) (qs : List Request) where
       abbrev e : Entry
       e = getD es a no-entry
 
-      waits : awaits (x .progress) e ≡ true → Inv (record { progress = waiting (x .progress) (broadcasts e); copies = x .copies })
+      waits : awaits (x .progress) e ≡ true → Inv (priceStage (waiting (x .progress) (broadcasts e)) (x .copies))
       unfolding awaits
       waits t =
           let w = both-true (ltb k (x .progress .requests)) (completes e) t in
@@ -310,7 +310,7 @@ module _ (s : Setup) (r : Rival) (es : List Entry) (qs : List Request) where
 
       pub falls-took : μ (took s x e) < μ x
       unfolding took
-      falls-took = choice (λ (y : Stage). μ y < μ x) (awaits (x .progress) e) (λ _. rw (go, flag) (omega arith)) (λ _. falls-turned [] e k)
+      falls-took = choice (λ (y : PriceStage). μ y < μ x) (awaits (x .progress) e) (λ _. rw (go, flag) (omega arith)) (λ _. falls-turned [] e k)
 
     -- ---- the request of a completion
 
@@ -340,5 +340,5 @@ module _ (s : Setup) (r : Rival) (es : List Entry) (qs : List Request) where
 
   -- ---- at the end
 
-  pub inv-end : (x : Stage) → Inv x → x .progress .going ≡ false → (x .progress .answer ≡ price s r qs es) × (x .copies ≡ priceTables s r qs es)
+  pub inv-end : (x : PriceStage) → Inv x → x .progress .going ≡ false → (x .progress .answer ≡ price s r qs es) × (x .copies ≡ priceTables s r qs es)
   inv-end x i f = (i .answers f, i .leaves f)

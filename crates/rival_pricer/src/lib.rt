@@ -4,8 +4,8 @@ use protocol::PriceAnswer;
 use protocol::Request;
 use protocol::Setup;
 ghost use mathlib.Core.Path.{_≡_};
-ghost use Rattle.protocol.specs.Rival.{rival};
 ghost use Rattle.protocol.specs.Pricer.{price as priced, priceTables};
+ghost use Rattle.rival_copies.specs.Copies.{rivalBefore, rivalAfter};
 
 // The schedule is played entry by entry from empty caches, to the first refused one.
 pub fn price(
@@ -16,8 +16,8 @@ pub fn price(
     entries: &[Entry],
     requests: &[Request],
 ) -> PriceAnswer
-    ensures { λ r. ⌜ (r ≡ priced setup (rival (now (blocks .entry)) (now (held .entry)) (now (marks .entry))) (now (requests .entry)) (now (entries .entry)))
-        × (rival (now (blocks .exit)) (now (held .exit)) (now (marks .exit)) ≡ priceTables setup (rival (now (blocks .entry)) (now (held .entry)) (now (marks .entry))) (now (requests .entry)) (now (entries .entry))) ⌝ }
+    ensures { λ r. ⌜ (r ≡ priced setup (rivalBefore blocks held marks) (now (requests .entry)) (now (entries .entry)))
+        × (rivalAfter blocks held marks ≡ priceTables setup (rivalBefore blocks held marks) (now (requests .entry)) (now (entries .entry))) ⌝ }
 {
     let mut p = rival_schedule::begin(setup, blocks, held, marks, entries.len(), requests.len());
     while p.going {

@@ -61,25 +61,25 @@ use Rattle.rival_pricing.proofs.Pricing as Pricing-t
 use Rattle.rival_pricing.proofs.Pricing.Laws as Pricing-l
 use Rattle.protocol.proofs.PriceAnswer as PriceAnswer-t
 use Rattle.protocol.proofs.PriceAnswer.Laws as PriceAnswer-l
-use Rattle.protocol.specs.Rival.{rival as lent}
+use Rattle.protocol.specs.Rival.{rival}
 use Rattle.protocol.specs.Pricer.{price as priced, priceTables}
-use Rattle.rival_pricing.specs.Stages.{Stage, stage, begun, took, completed}
+use Rattle.rival_pricing.specs.Stages.{PriceStage, priceBegun, took, completed}
 use Rattle.rival_pricer.proofs.Loop.{no-entry, no-request, Inv, μ, inv-start, inv-took, falls-took, inv-completed, falls-completed, at-entry, at-request, due, inv-end}
 use Rattle.walks.proofs.Frame.{dieAll, blocks as blocks-of, slots, alloc-all, leave-all, rest-of, then-of, else-of}
 use Rattle.walks.proofs.Opening.{at-list, slice-at, Cells, Opened, slice-opens, slice-closes}
 use Rattle.rival_pricer.proofs.price.Proof.Begin as Begin
 use Rattle.rival_schedule.proofs.begin.Symbol as begin-def
-use Rattle.rival_schedule.proofs.begin.Symbol.{name as #rival_schedule·begin}
+use Rattle.rival_schedule.proofs.begin.Symbol.{name as #rival-schedule·begin}
 use Rattle.rival_schedule.proofs.begin.Met as begin-thm
 use Rattle.rival_pricer.proofs.price.Proof.Complete as Complete
 use Rattle.rival_schedule.proofs.complete.Symbol as complete-def
-use Rattle.rival_schedule.proofs.complete.Symbol.{name as #rival_schedule·complete}
+use Rattle.rival_schedule.proofs.complete.Symbol.{name as #rival-schedule·complete}
 use Rattle.rival_schedule.proofs.complete.Met as complete-thm
 use Rattle.rival_pricer.proofs.price.Proof.Take as Take
 use Rattle.rival_schedule.proofs.take.Symbol as take-def
-use Rattle.rival_schedule.proofs.take.Symbol.{name as #rival_schedule·take}
+use Rattle.rival_schedule.proofs.take.Symbol.{name as #rival-schedule·take}
 use Rattle.rival_schedule.proofs.take.Met as take-thm
-use Rattle.rival_pricer.proofs.price.Key.{name as #rival_pricer·price}
+use Rattle.rival_pricer.proofs.price.Key.{name as #rival-pricer·price}
 use Rattle.rival_pricer.proofs.price as price
 use Rattle.rival_pricer.proofs.price.Statement as stated
 use Rattle.rival_pricer.proofs.price.Code as code
@@ -99,15 +99,15 @@ fails false h = refl
 module _ (setup : Setup) (blocks : List ℕ) (held : List ℕ) (marks : List ℕ) (entries : List Entry) (requests : List Request) where
   -- a stage that the loop comes to
   record Turning : Type 0 where
-    at : Stage
-    inv : Inv setup (lent blocks held marks) entries requests at
+    at : PriceStage
+    inv : Inv setup (rival blocks held marks) entries requests at
     is : Is Pricing-t.the-row (at .progress) ((LL.val Pricing-t.the-type Pricing-l.the-laws (at .progress)) ∷ [])
     blocks-len : length (at .copies .blocks) ≡ length blocks
     held-len : length (at .copies .held) ≡ length held
     marks-len : length (at .copies .marks) ≡ length marks
 
   abbrev left : Turning → ℕ
-  left x = μ setup (lent blocks held marks) entries requests (x .at)
+  left x = μ setup (rival blocks held marks) entries requests (x .at)
 
   abbrev ≺ : Turning → Turning → Type 0
   ≺ y x = left y < left x
@@ -131,7 +131,7 @@ module _ {M : Type 1} (𝓤 : URA M) (H : Heap 𝓤) (A : Atoms 𝓤) (W : Given
   abbrev Post : Val → SProp 𝓤
   Post = walkOf 𝓤 H A price.ended stayed (price.clauses 𝓤 H A mem run″) .post bound
 
-  abbrev Held : Stage → Item 𝓤
+  abbrev Held : PriceStage → Item 𝓤
   Held s = ‵ (Cells u32 b-blocks o-blocks (s .copies .blocks)) ⊛ ‵ (Cells u32 b-held o-held (s .copies .held)) ⊛ ‵ (Cells u32 b-marks o-marks (s .copies .marks))
 
   abbrev Kept : Item 𝓤
@@ -159,7 +159,7 @@ module _ {M : Type 1} (𝓤 : URA M) (H : Heap 𝓤) (A : Atoms 𝓤) (W : Given
       at-once ! $ keep ! (7 ∷ 5 ∷ 3 ∷ 11 ∷ 2 ∷ 9 ∷ 0 ∷ 8 ∷ 6 ∷ 4 ∷ []) $ group ! 3 $ done !
 
   -- from the memory at the last stage to the end
-  module _ (s : Stage) (blocks-len : length (s .copies .blocks) ≡ length blocks) (held-len : length (s .copies .held) ≡ length held) (marks-len : length (s .copies .marks) ≡ length marks) (done-so : (s .progress .answer ≡ priced setup (lent blocks held marks) requests entries) × (s .copies ≡ priceTables setup (lent blocks held marks) requests entries)) (end-is : Is PriceAnswer-t.the-row (s .progress .answer) ((EL.val PriceAnswer-t.the-type PriceAnswer-l.the-laws (s .progress .answer)) ∷ [])) where
+  module _ (s : PriceStage) (blocks-len : length (s .copies .blocks) ≡ length blocks) (held-len : length (s .copies .held) ≡ length held) (marks-len : length (s .copies .marks) ≡ length marks) (done-so : (s .progress .answer ≡ priced setup (rival blocks held marks) requests entries) × (s .copies ≡ priceTables setup (rival blocks held marks) requests entries)) (end-is : Is PriceAnswer-t.the-row (s .progress .answer) ((EL.val PriceAnswer-t.the-type PriceAnswer-l.the-laws (s .progress .answer)) ∷ [])) where
     abbrev AtEnd : Item 𝓤
     AtEnd = Held s ⊛ ‵ (flft κ-entries q-entries) ⊛ ‵ (ShrSlice (named 3) κ-entries Entry-t.the-row .own (at-list Entry-t.the-row b-entries o-entries γ-entries entries) ((slice-at Entry-t.the-row b-entries o-entries entries) ∷ [])) ⊛ ‵ (flft κ-requests q-requests) ⊛ ‵ (ShrSlice (named 4) κ-requests Request-t.the-row .own (at-list Request-t.the-row b-requests o-requests γ-requests requests) ((slice-at Request-t.the-row b-requests o-requests requests) ∷ [])) ⊛ Kept
 
@@ -172,7 +172,7 @@ module _ {M : Type 1} (𝓤 : URA M) (H : Heap 𝓤) (A : Atoms 𝓤) (W : Given
         at-once ! $ suffices ! _ (ends-at 𝓤 H A price.ended stayed (price.clauses 𝓤 H A mem run″) W bound (EL.val PriceAnswer-t.the-type PriceAnswer-l.the-laws (s .progress .answer)) (s .progress .answer) (tt, ((s .copies .blocks), ((s .copies .held), ((s .copies .marks), (tt, (tt, tt)))))) (tt, (blocks-len, (held-len, (marks-len, (tt, (tt, tt))))))) $ says ! done-so $ nothing ! $ move ! (6 ∷ 4 ∷ 2 ∷ 7 ∷ 9 ∷ 0 ∷ []) $ group ! 6 $ frame ! $
         nothing ! $ move ! (5 ∷ 0 ∷ []) $ fjoin ! $ move ! (4 ∷ 0 ∷ []) $ fjoin ! $ move ! (1 ∷ 0 ∷ []) $ fjoin ! $ move ! (1 ∷ 0 ∷ []) $ fjoin ! $ move ! (1 ∷ 0 ∷ []) $ fjoin ! $ owned ! Setup-t.the-row (Is Setup-t.the-row) (LL.makes Setup-t.the-type Setup-l.the-plain 𝓤 H A) setup _ setup-is $ fjoin ! $ frame ! $ owned ! PriceAnswer-t.the-row (Is PriceAnswer-t.the-row) (EL.makes PriceAnswer-t.the-type PriceAnswer-l.the-plain 𝓤 H A) (s .progress .answer) _ end-is $ done !
 
-  module _ (𝓣 : Tables 𝓤 H) (known-begin : Triple 𝓤 (𝓣 .C #rival_schedule·begin) (Begin.Called 𝓤 H A mem run″)) (known-complete : Triple 𝓤 (𝓣 .C #rival_schedule·complete) (Complete.Called 𝓤 H A mem run″)) (known-take : Triple 𝓤 (𝓣 .C #rival_schedule·take) (Take.Called 𝓤 H A mem run″)) where
+  module _ (𝓣 : Tables 𝓤 H) (known-begin : Triple 𝓤 (𝓣 .C #rival-schedule·begin) (Begin.Called 𝓤 H A mem run″)) (known-complete : Triple 𝓤 (𝓣 .C #rival-schedule·complete) (Complete.Called 𝓤 H A mem run″)) (known-take : Triple 𝓤 (𝓣 .C #rival-schedule·take) (Take.Called 𝓤 H A mem run″)) where
     abbrev C : Calls 𝓤 H
     C = 𝓣 .C
 
@@ -207,7 +207,7 @@ module _ {M : Type 1} (𝓤 : URA M) (H : Heap 𝓤) (A : Atoms 𝓤) (W : Given
           rewrite ! 22 (λ (y : Bool). ‵ (fat fullShare tyBool l₁₆ 0 (vbool y))) stopped refl $
           leaves-loop ! (load ! (from ! (stop !)) (look ! 22 refl)) $ exec ! C Λ E code-mir.t-11 (atRet E Post) $
           assigns ! (of-opd ! (load ! (from ! (fld ! refl (stop !))) (look-in ! 13 (sub ! 8 refl (whole !))))) (from ! (stop !)) (init ! 6 refl (EL.lawful PriceAnswer-t.the-type PriceAnswer-l.the-laws 𝓤 H A W tt .typed (x .at .progress .answer) _ (LL.owed Pricing-t.the-type Pricing-l.the-laws (x .at .progress) _ (x .is) .1 .1 .1 .1 .1 .1 .1 .1 .0) .0)) $
-          move ! (0 ∷ 1 ∷ 2 ∷ 3 ∷ 4 ∷ 5 ∷ []) $ group ! 6 $ use1 W (later (raw (Post (EL.val PriceAnswer-t.the-type PriceAnswer-l.the-laws (x .at .progress .answer))))) (finish (x .at) (x .blocks-len) (x .held-len) (x .marks-len) (inv-end setup (lent blocks held marks) entries requests (x .at) (x .inv) stopped) end-is) $ await ! tt $
+          move ! (0 ∷ 1 ∷ 2 ∷ 3 ∷ 4 ∷ 5 ∷ []) $ group ! 6 $ use1 W (later (raw (Post (EL.val PriceAnswer-t.the-type PriceAnswer-l.the-laws (x .at .progress .answer))))) (finish (x .at) (x .blocks-len) (x .held-len) (x .marks-len) (inv-end setup (rival blocks held marks) entries requests (x .at) (x .inv) stopped) end-is) $ await ! tt $
           returns ! (look ! 1 refl) $ leave-all ! E (is-some (EL.val PriceAnswer-t.the-type PriceAnswer-l.the-laws (x .at .progress .answer)) ∷ is-some (LL.val Setup-t.the-type Setup-l.the-laws setup) ∷ is-some (slice-at u32 b-blocks o-blocks blocks) ∷ is-some (slice-at u32 b-held o-held held) ∷ is-some (slice-at u32 b-marks o-marks marks) ∷ is-some (slice-at Entry-t.the-row b-entries o-entries entries) ∷ is-some (slice-at Request-t.the-row b-requests o-requests requests) ∷ is-some (LL.val Pricing-t.the-type Pricing-l.the-laws (x .at .progress)) ∷ none ∷ none ∷ none ∷ none ∷ none ∷ none ∷ none ∷ none ∷ is-some (vbool false) ∷ []) (done !)
         where
           end-is : Is PriceAnswer-t.the-row (x .at .progress .answer) ((EL.val PriceAnswer-t.the-type PriceAnswer-l.the-laws (x .at .progress .answer)) ∷ [])
@@ -237,22 +237,22 @@ module _ {M : Type 1} (𝓤 : URA M) (H : Heap 𝓤) (A : Atoms 𝓤) (W : Given
           rewrite ! 24 (λ (n : ℕ). ‵ (fat fullShare (sliceTy (tyRef erased mut (tyInt w32))) l₁₈ 0 (sliceVal (b-blocks, o-blocks) n))) (sym (x .blocks-len)) refl $
           rewrite ! 26 (λ (n : ℕ). ‵ (fat fullShare (sliceTy (tyRef erased mut (tyInt w32))) l₂₀ 0 (sliceVal (b-held, o-held) n))) (sym (x .held-len)) refl $
           rewrite ! 28 (λ (n : ℕ). ‵ (fat fullShare (sliceTy (tyRef erased mut (tyInt w32))) l₂₂ 0 (sliceVal (b-marks, o-marks) n))) (sym (x .marks-len)) refl $
-          use1 W (later (some (λ (k : Complete.Key 𝓤 H A mem run″ W b-blocks o-blocks b-held o-held b-marks o-marks setup (x .at .copies .blocks) (x .at .copies .held) (x .at .copies .marks) (x .at .progress) e). raw (Complete.Called 𝓤 H A mem run″ .pre (Complete.to 𝓤 H A mem run″ W b-blocks o-blocks b-held o-held b-marks o-marks setup (x .at .copies .blocks) (x .at .copies .held) (x .at .copies .marks) (x .at .progress) e k)) ⊛ Complete.Out 𝓤 H A mem run″ W b-blocks o-blocks b-held o-held b-marks o-marks setup (x .at .copies .blocks) (x .at .copies .held) (x .at .copies .marks) (x .at .progress) e k))) (Complete.before 𝓤 H A mem run″ W b-blocks o-blocks b-held o-held b-marks o-marks setup (x .at .copies .blocks) (x .at .copies .held) (x .at .copies .marks) (x .at .progress) e setup-is (x .is) e-is (due setup (lent blocks held marks) entries requests (x .at) (x .inv) go flag) (subst (Room u32) (sym (x .blocks-len)) r-blocks) (subst (Room u32) (sym (x .held-len)) r-held) (subst (Room u32) (sym (x .marks-len)) r-marks)) $ await ! tt $ pick ! (λ k. split ! $
+          use1 W (later (some (λ (k : Complete.Key 𝓤 H A mem run″ W b-blocks o-blocks b-held o-held b-marks o-marks setup (x .at .copies .blocks) (x .at .copies .held) (x .at .copies .marks) (x .at .progress) e). raw (Complete.Called 𝓤 H A mem run″ .pre (Complete.to 𝓤 H A mem run″ W b-blocks o-blocks b-held o-held b-marks o-marks setup (x .at .copies .blocks) (x .at .copies .held) (x .at .copies .marks) (x .at .progress) e k)) ⊛ Complete.Out 𝓤 H A mem run″ W b-blocks o-blocks b-held o-held b-marks o-marks setup (x .at .copies .blocks) (x .at .copies .held) (x .at .copies .marks) (x .at .progress) e k))) (Complete.before 𝓤 H A mem run″ W b-blocks o-blocks b-held o-held b-marks o-marks setup (x .at .copies .blocks) (x .at .copies .held) (x .at .copies .marks) (x .at .progress) e setup-is (x .is) e-is (due setup (rival blocks held marks) entries requests (x .at) (x .inv) go flag) (subst (Room u32) (sym (x .blocks-len)) r-blocks) (subst (Room u32) (sym (x .held-len)) r-held) (subst (Room u32) (sym (x .marks-len)) r-marks)) $ await ! tt $ pick ! (λ k. split ! $
           calls-at-last ! (fmOf 𝓤 H (W .laws) 𝓣) (Complete.Called 𝓤 H A mem run″) known-complete (Complete.to 𝓤 H A mem run″ W b-blocks o-blocks b-held o-held b-marks o-marks setup (x .at .copies .blocks) (x .at .copies .held) (x .at .copies .marks) (x .at .progress) e k) (and-then ! (load ! (from ! (stop !)) (look ! 8 refl)) (and-then ! (load ! (from ! (stop !)) (look ! 25 refl)) (and-then ! (load ! (from ! (stop !)) (look ! 27 refl)) (and-then ! (load ! (from ! (stop !)) (look ! 29 refl)) (and-then ! (load ! (from ! (stop !)) (look ! 14 refl)) (and-then ! (load ! (from ! (stop !)) (look ! 32 refl)) (no-more !))))))) (λ w.
           use2 W (later (given (Complete.Told 𝓤 H A mem run″ W b-blocks o-blocks b-held o-held b-marks o-marks setup (x .at .copies .blocks) (x .at .copies .held) (x .at .copies .marks) (x .at .progress) e w) (Held (completed setup (x .at) e)))) (Complete.after 𝓤 H A mem run″ W b-blocks o-blocks b-held o-held b-marks o-marks setup (x .at .copies .blocks) (x .at .copies .held) (x .at .copies .marks) (x .at .progress) e k w) $ await ! tt $ learn ! (λ told.
           land-last ! (from ! (stop !)) (store ! 13 refl (LL.lawful Pricing-t.the-type Pricing-l.the-laws 𝓤 H A W .typed ((completed setup (x .at) e) .progress) (w ∷ []) (subst (λ (u : Val). Is Pricing-t.the-row ((completed setup (x .at) e) .progress) (u ∷ [])) (sym (told .value)) (told .is)) .0)) $
           forget ! 22 refl $ forget ! 23 refl $ forget ! 24 refl $ forget ! 25 refl $ forget ! 26 refl $ forget ! 27 refl $ forget ! 28 refl $ forget ! 29 refl $ forget ! 30 refl $ forget ! 31 refl $
           rewrite ! 13 (λ (u : Val). ‵ (fat fullShare Pricing-l.mir l₇ 0 u)) (told .value) refl $
-          again ! (≺ setup blocks held marks entries requests) I x (record { at = completed setup (x .at) e; inv = inv-completed setup (lent blocks held marks) entries requests (x .at) (x .inv) go flag; is = told .is; blocks-len = told .blocks-len ∙ x .blocks-len; held-len = told .held-len ∙ x .held-len; marks-len = told .marks-len ∙ x .marks-len }) (falls-completed setup (lent blocks held marks) entries requests (x .at) (x .inv) go flag))))))
+          again ! (≺ setup blocks held marks entries requests) I x (record { at = completed setup (x .at) e; inv = inv-completed setup (rival blocks held marks) entries requests (x .at) (x .inv) go flag; is = told .is; blocks-len = told .blocks-len ∙ x .blocks-len; held-len = told .held-len ∙ x .held-len; marks-len = told .marks-len ∙ x .marks-len }) (falls-completed setup (rival blocks held marks) entries requests (x .at) (x .inv) go flag))))))
         where
           e : Request
           e = getD requests (x .at .progress .next) no-request
 
           within : (x .at .progress .next) < length requests
-          within = at-request setup (lent blocks held marks) entries requests (x .at) (x .inv) go flag
+          within = at-request setup (rival blocks held marks) entries requests (x .at) (x .inv) go flag
 
           small : (x .at .progress .next) * 16 < 2 ^ 64
-          small = let far : length requests * 16 < 2 ^ 63 = r-requests .1 in let w : (x .at .progress .next) < length requests = at-request setup (lent blocks held marks) entries requests (x .at) (x .inv) go flag in omega arith
+          small = let far : length requests * 16 < 2 ^ 63 = r-requests .1 in let w : (x .at .progress .next) < length requests = at-request setup (rival blocks held marks) entries requests (x .at) (x .inv) go flag in omega arith
 
       with-entry : (x : X) → x .at .progress .going ≡ true → x .at .progress .completing ≡ false → Sq W (J x) (runs C Λ E (else-of (rest-of (rest-of (rest-of code-mir.turn-1)))) (After x))
       unfolding afterTurn
@@ -280,16 +280,16 @@ module _ {M : Type 1} (𝓤 : URA M) (H : Heap 𝓤) (A : Atoms 𝓤) (W : Given
           land-last ! (from ! (stop !)) (store ! 13 refl (LL.lawful Pricing-t.the-type Pricing-l.the-laws 𝓤 H A W .typed ((took setup (x .at) e) .progress) (w ∷ []) (subst (λ (u : Val). Is Pricing-t.the-row ((took setup (x .at) e) .progress) (u ∷ [])) (sym (told .value)) (told .is)) .0)) $
           forget ! 22 refl $ forget ! 32 refl $ forget ! 33 refl $ forget ! 34 refl $ forget ! 35 refl $ forget ! 36 refl $ forget ! 37 refl $ forget ! 38 refl $ forget ! 39 refl $ forget ! 40 refl $
           rewrite ! 13 (λ (u : Val). ‵ (fat fullShare Pricing-l.mir l₇ 0 u)) (told .value) refl $
-          again ! (≺ setup blocks held marks entries requests) I x (record { at = took setup (x .at) e; inv = inv-took setup (lent blocks held marks) entries requests (x .at) (x .inv) go flag; is = told .is; blocks-len = told .blocks-len ∙ x .blocks-len; held-len = told .held-len ∙ x .held-len; marks-len = told .marks-len ∙ x .marks-len }) (falls-took setup (lent blocks held marks) entries requests (x .at) (x .inv) go flag))))))
+          again ! (≺ setup blocks held marks entries requests) I x (record { at = took setup (x .at) e; inv = inv-took setup (rival blocks held marks) entries requests (x .at) (x .inv) go flag; is = told .is; blocks-len = told .blocks-len ∙ x .blocks-len; held-len = told .held-len ∙ x .held-len; marks-len = told .marks-len ∙ x .marks-len }) (falls-took setup (rival blocks held marks) entries requests (x .at) (x .inv) go flag))))))
         where
           e : Entry
           e = getD entries (x .at .progress .at) no-entry
 
           within : (x .at .progress .at) < length entries
-          within = at-entry setup (lent blocks held marks) entries requests (x .at) (x .inv) go
+          within = at-entry setup (rival blocks held marks) entries requests (x .at) (x .inv) go
 
           small : (x .at .progress .at) * 12 < 2 ^ 64
-          small = let far : length entries * 12 < 2 ^ 63 = r-entries .1 in let w : (x .at .progress .at) < length entries = at-entry setup (lent blocks held marks) entries requests (x .at) (x .inv) go in omega arith
+          small = let far : length entries * 12 < 2 ^ 63 = r-entries .1 in let w : (x .at .progress .at) < length entries = at-entry setup (rival blocks held marks) entries requests (x .at) (x .inv) go in omega arith
 
       more : (x : X) → x .at .progress .going ≡ true → Turns x
       unfolding afterTurn
@@ -325,14 +325,14 @@ module _ {M : Type 1} (𝓤 : URA M) (H : Heap 𝓤) (A : Atoms 𝓤) (W : Given
         assigns ! (of-opd ! (load ! (from ! (fld ! refl (stop !))) (look-in ! 12 (sub ! 1 refl (whole !))))) (from ! (stop !)) (init ! 21 refl (tt, record { fits = r-requests .0 })) $
         use1 W (later (some (λ (k : Begin.Key 𝓤 H A mem run″ W b-blocks o-blocks b-held o-held b-marks o-marks setup blocks held marks (length entries) (length requests)). raw (Begin.Called 𝓤 H A mem run″ .pre (Begin.to 𝓤 H A mem run″ W b-blocks o-blocks b-held o-held b-marks o-marks setup blocks held marks (length entries) (length requests) k)) ⊛ Begin.Out 𝓤 H A mem run″ W b-blocks o-blocks b-held o-held b-marks o-marks setup blocks held marks (length entries) (length requests) k))) (Begin.before 𝓤 H A mem run″ W b-blocks o-blocks b-held o-held b-marks o-marks setup blocks held marks (length entries) (length requests) setup-is (refl, r-entries .0) (refl, r-requests .0) r-blocks r-held r-marks) $ await ! tt $ pick ! (λ k. split ! $
         calls-at ! (fmOf 𝓤 H (W .laws) 𝓣) (Begin.Called 𝓤 H A mem run″) known-begin (Begin.to 𝓤 H A mem run″ W b-blocks o-blocks b-held o-held b-marks o-marks setup blocks held marks (length entries) (length requests) k) (and-then ! (load ! (from ! (stop !)) (look ! 8 refl)) (and-then ! (load ! (from ! (stop !)) (look ! 16 refl)) (and-then ! (load ! (from ! (stop !)) (look ! 18 refl)) (and-then ! (load ! (from ! (stop !)) (look ! 20 refl)) (and-then ! (load ! (from ! (stop !)) (look ! 21 refl)) (and-then ! (load ! (from ! (stop !)) (look ! 22 refl)) (no-more !))))))) (λ w.
-        use2 W (later (given (Begin.Told 𝓤 H A mem run″ W b-blocks o-blocks b-held o-held b-marks o-marks setup blocks held marks (length entries) (length requests) w) (Held (begun setup (lent blocks held marks) (length entries) (length requests))))) (Begin.after 𝓤 H A mem run″ W b-blocks o-blocks b-held o-held b-marks o-marks setup blocks held marks (length entries) (length requests) k w) $ await ! tt $ learn ! (λ told.
-        land ! (from ! (stop !)) (init ! 13 refl (LL.lawful Pricing-t.the-type Pricing-l.the-laws 𝓤 H A W .typed ((begun setup (lent blocks held marks) (length entries) (length requests)) .progress) (w ∷ []) (subst (λ (u : Val). Is Pricing-t.the-row ((begun setup (lent blocks held marks) (length entries) (length requests)) .progress) (u ∷ [])) (sym (told .value)) (told .is)) .0)) $
+        use2 W (later (given (Begin.Told 𝓤 H A mem run″ W b-blocks o-blocks b-held o-held b-marks o-marks setup blocks held marks (length entries) (length requests) w) (Held (priceBegun setup (rival blocks held marks) (length entries) (length requests))))) (Begin.after 𝓤 H A mem run″ W b-blocks o-blocks b-held o-held b-marks o-marks setup blocks held marks (length entries) (length requests) k w) $ await ! tt $ learn ! (λ told.
+        land ! (from ! (stop !)) (init ! 13 refl (LL.lawful Pricing-t.the-type Pricing-l.the-laws 𝓤 H A W .typed ((priceBegun setup (rival blocks held marks) (length entries) (length requests)) .progress) (w ∷ []) (subst (λ (u : Val). Is Pricing-t.the-row ((priceBegun setup (rival blocks held marks) (length entries) (length requests)) .progress) (u ∷ [])) (sym (told .value)) (told .is)) .0)) $
         rewrite ! 13 (λ (u : Val). ‵ (fat fullShare Pricing-l.mir l₇ 0 u)) (told .value) refl $
         forget ! 14 refl $ forget ! 15 refl $ forget ! 16 refl $ forget ! 17 refl $ forget ! 18 refl $ forget ! 19 refl $ forget ! 20 refl $ forget ! 21 refl $
         first ! $ into-block ! $ loops ! 𝓣 (≺ setup blocks held marks entries requests) (wf setup blocks held marks entries requests) (I l₀ l₁ l₂ l₃ l₄ l₅ l₆ l₇ l₈ l₉ l₁₀ l₁₁ l₁₂ l₁₃ l₁₄ l₁₅ l₁₆ l₁₇ l₁₈ l₁₉ l₂₀ l₂₁ l₂₂ l₂₃ l₂₄ l₂₅ l₂₆ l₂₇ l₂₈ l₂₉ l₃₀ l₃₁ l₃₂ l₃₃ l₃₄) (λ x. turn-at l₀ l₁ l₂ l₃ l₄ l₅ l₆ l₇ l₈ l₉ l₁₀ l₁₁ l₁₂ l₁₃ l₁₄ l₁₅ l₁₆ l₁₇ l₁₈ l₁₉ l₂₀ l₂₁ l₂₂ l₂₃ l₂₄ l₂₅ l₂₆ l₂₇ l₂₈ l₂₉ l₃₀ l₃₁ l₃₂ l₃₃ l₃₄ x (x .at .progress .going) refl)
-        (record { at = (begun setup (lent blocks held marks) (length entries) (length requests)); inv = inv-start setup (lent blocks held marks) entries requests; is = told .is; blocks-len = told .blocks-len; held-len = told .held-len; marks-len = told .marks-len })))))
+        (record { at = (priceBegun setup (rival blocks held marks) (length entries) (length requests)); inv = inv-start setup (rival blocks held marks) entries requests; is = told .is; blocks-len = told .blocks-len; held-len = told .held-len; marks-len = told .marks-len })))))
 
-module _ {M : Type 1} (𝓤 : URA M) (H : Heap 𝓤) (A : Atoms 𝓤) (W : Given 𝓤 H A) (mem : Memory → SProp 𝓤) (run″ : Routine → Fun 𝓤) (𝓣 : Tables 𝓤 H) (known-begin : Triple 𝓤 (𝓣 .C #rival_schedule·begin) (Begin.Called 𝓤 H A mem run″)) (known-complete : Triple 𝓤 (𝓣 .C #rival_schedule·complete) (Complete.Called 𝓤 H A mem run″)) (known-take : Triple 𝓤 (𝓣 .C #rival_schedule·take) (Take.Called 𝓤 H A mem run″)) where
+module _ {M : Type 1} (𝓤 : URA M) (H : Heap 𝓤) (A : Atoms 𝓤) (W : Given 𝓤 H A) (mem : Memory → SProp 𝓤) (run″ : Routine → Fun 𝓤) (𝓣 : Tables 𝓤 H) (known-begin : Triple 𝓤 (𝓣 .C #rival-schedule·begin) (Begin.Called 𝓤 H A mem run″)) (known-complete : Triple 𝓤 (𝓣 .C #rival-schedule·complete) (Complete.Called 𝓤 H A mem run″)) (known-take : Triple 𝓤 (𝓣 .C #rival-schedule·take) (Take.Called 𝓤 H A mem run″)) where
   price-walks : Walks 𝓤 H A price.ended stayed (WpFn 𝓤 H (𝓣 .C) (𝓣 .Λ) code.function) (price.clauses 𝓤 H A mem run″)
   price-walks = walked 𝓤 H A price.ended stayed (price.clauses 𝓤 H A mem run″) (WpFn 𝓤 H (𝓣 .C) (𝓣 .Λ) code.function)
       (λ κs. ((LL.vals Setup-t.the-type Setup-l.the-laws), (slice-vals, (slice-vals, (slice-vals, (slice-vals, (slice-vals, tt)))))))
@@ -347,8 +347,8 @@ pub price-spec : {M : Type 1} → stated.statement M
 unfolding code.routine tablesOf
 price-spec 𝓤 H 𝓜 𝓖 𝓡 =
     entered 𝓤 H (tripleOf 𝓤 H (𝓖 .A) price.signature (price.spec 𝓤 H (𝓖 .A) (𝓜 .mem) (𝓡 .run)))
-    (tables 𝓤 H 𝓜 𝓡 code.env .C) (tables 𝓤 H 𝓜 𝓡 code.env .Λ) #rival_pricer·price code.function (code.unfolded 𝓤 H 𝓜 𝓡)
+    (tables 𝓤 H 𝓜 𝓡 code.env .C) (tables 𝓤 H 𝓜 𝓡 code.env .Λ) #rival-pricer·price code.function (code.unfolded 𝓤 H 𝓜 𝓡)
     (price-meets 𝓤 H (𝓖 .A) (givenOf 𝓤 H 𝓜 𝓖) (𝓜 .mem) (𝓡 .run) (tablesOf 𝓤 H 𝓜 (tables 𝓤 H 𝓜 𝓡 code.env))
-    (cited 𝓤 H (Begin.Called 𝓤 H (𝓖 .A) (𝓜 .mem) (𝓡 .run)) 𝓜 𝓡 code.env #rival_schedule·begin begin-def.routine code.calls-rival-schedule·begin (begin-thm.met 𝓤 H 𝓜 𝓖 𝓡))
-    (cited 𝓤 H (Complete.Called 𝓤 H (𝓖 .A) (𝓜 .mem) (𝓡 .run)) 𝓜 𝓡 code.env #rival_schedule·complete complete-def.routine code.calls-rival-schedule·complete (complete-thm.met 𝓤 H 𝓜 𝓖 𝓡))
-    (cited 𝓤 H (Take.Called 𝓤 H (𝓖 .A) (𝓜 .mem) (𝓡 .run)) 𝓜 𝓡 code.env #rival_schedule·take take-def.routine code.calls-rival-schedule·take (take-thm.met 𝓤 H 𝓜 𝓖 𝓡)))
+    (cited 𝓤 H (Begin.Called 𝓤 H (𝓖 .A) (𝓜 .mem) (𝓡 .run)) 𝓜 𝓡 code.env #rival-schedule·begin begin-def.routine code.calls-rival-schedule·begin (begin-thm.met 𝓤 H 𝓜 𝓖 𝓡))
+    (cited 𝓤 H (Complete.Called 𝓤 H (𝓖 .A) (𝓜 .mem) (𝓡 .run)) 𝓜 𝓡 code.env #rival-schedule·complete complete-def.routine code.calls-rival-schedule·complete (complete-thm.met 𝓤 H 𝓜 𝓖 𝓡))
+    (cited 𝓤 H (Take.Called 𝓤 H (𝓖 .A) (𝓜 .mem) (𝓡 .run)) 𝓜 𝓡 code.env #rival-schedule·take take-def.routine code.calls-rival-schedule·take (take-thm.met 𝓤 H 𝓜 𝓖 𝓡)))

@@ -36,7 +36,8 @@ use Rattle.rival_pricing.proofs.Pricing.Laws as Pricing-l
 use Rattle.protocol.specs.declared.Request.{Request}
 use Rattle.protocol.proofs.Request as Request-t
 use Rattle.protocol.proofs.Request.Laws as Request-l
-use Rattle.rival_pricing.specs.Stages.{Stage, stage, Due, completed}
+use Rattle.protocol.specs.Rival.{rival}
+use Rattle.rival_pricing.specs.Stages.{PriceStage, priceStage, Due, completed}
 use Rattle.walks.proofs.Opening.{at-list, slice-at, Cells, Loan, slice-lends, slice-returns}
 use Rattle.rival_schedule.proofs.complete as complete
 
@@ -59,10 +60,10 @@ module _ {M : Type 1} (𝓤 : URA M) (H : Heap 𝓤) (A : Atoms 𝓤) (mem : Mem
       abbrev pub Out : Key → Item 𝓤
       Out k = ‵ (Loan u32 b-blocks o-blocks (k .0 ∷ []) (k .1) (length blocks)) ⊛ ‵ (Loan u32 b-held o-held (k .0 ∷ []) (k .2) (length held)) ⊛ ‵ (Loan u32 b-marks o-marks (k .0 ∷ []) (k .3) (length marks))
 
-      abbrev pub after-it : Stage
-      after-it = completed setup (stage p blocks held marks) request
+      abbrev pub after-it : PriceStage
+      after-it = completed setup (priceStage p (rival blocks held marks)) request
 
-      module _ (setup-is : Is Setup-t.the-row setup (LL.vals Setup-t.the-type Setup-l.the-laws setup)) (p-is : Is Pricing-t.the-row p (LL.vals Pricing-t.the-type Pricing-l.the-laws p)) (request-is : Is Request-t.the-row request (LL.vals Request-t.the-type Request-l.the-laws request)) (ready : Due setup (stage p blocks held marks)) where
+      module _ (setup-is : Is Setup-t.the-row setup (LL.vals Setup-t.the-type Setup-l.the-laws setup)) (p-is : Is Pricing-t.the-row p (LL.vals Pricing-t.the-type Pricing-l.the-laws p)) (request-is : Is Request-t.the-row request (LL.vals Request-t.the-type Request-l.the-laws request)) (ready : Due setup (priceStage p (rival blocks held marks))) where
         asked : (k : Key) → ent 𝓤 (mean 𝓤 H A (‵ (flft (k .0 ∷ []) fullShare) ⊛ ‵ (MutSlice (named 0) (k .0 ∷ []) u32 .own (at-list u32 b-blocks o-blocks (k .1) blocks) (slice-at u32 b-blocks o-blocks blocks ∷ [])) ⊛ ‵ (MutSlice (named 0) (k .0 ∷ []) u32 .own (at-list u32 b-held o-held (k .2) held) (slice-at u32 b-held o-held held ∷ [])) ⊛ ‵ (MutSlice (named 0) (k .0 ∷ []) u32 .own (at-list u32 b-marks o-marks (k .3) marks) (slice-at u32 b-marks o-marks marks ∷ [])))) (Called .pre (to k))
         asked k =
             qed W (‵ (flft (k .0 ∷ []) fullShare) ∷ ‵ (MutSlice (named 0) (k .0 ∷ []) u32 .own (at-list u32 b-blocks o-blocks (k .1) blocks) (slice-at u32 b-blocks o-blocks blocks ∷ [])) ∷ ‵ (MutSlice (named 0) (k .0 ∷ []) u32 .own (at-list u32 b-held o-held (k .2) held) (slice-at u32 b-held o-held held ∷ [])) ∷ ‵ (MutSlice (named 0) (k .0 ∷ []) u32 .own (at-list u32 b-marks o-marks (k .3) marks) (slice-at u32 b-marks o-marks marks ∷ [])) ∷ []) ∵ says ! ready $ nothing ! $ owned ! Request-t.the-row (Is Request-t.the-row) (LL.makes Request-t.the-type Request-l.the-plain 𝓤 H A) request _ request-is $ fjoin ! $ owned ! Pricing-t.the-row (Is Pricing-t.the-row) (LL.makes Pricing-t.the-type Pricing-l.the-plain 𝓤 H A) p _ p-is $ fjoin ! $ move ! (4 ∷ 0 ∷ []) $ fjoin ! $ move ! (3 ∷ 0 ∷ []) $ fjoin ! $ move ! (2 ∷ 0 ∷ []) $ fjoin ! $ owned ! Setup-t.the-row (Is Setup-t.the-row) (LL.makes Setup-t.the-type Setup-l.the-plain 𝓤 H A) setup _ setup-is $ fjoin ! $ nothing ! $ move ! (2 ∷ 0 ∷ []) $ join ! $ frame ! $ done !
@@ -87,15 +88,15 @@ module _ {M : Type 1} (𝓤 : URA M) (H : Heap 𝓤) (A : Atoms 𝓤) (mem : Mem
       after k w =
           qed W (raw (Called .post (to k) w) ∷ Out k ∷ []) ∵ updating ! $
           use1 W (later (some (λ (r : Pricing). ((‵ (flft (k .0 ∷ []) fullShare) ⊛ ‵ ftrue) ⊛ ‵ (Pricing-t.the-row .own r (w ∷ []))) ⊛ raw (ensured 𝓤 H A complete.ended (complete.clauses 𝓤 H A mem run″) (k .0 ∷ [], tt) (to k .0 .3) tt r)))) (id⊢ 𝓤 _) $ await ! tt $ pick ! (λ r.
-          split ! $ move ! (1 ∷ []) $ use1 W (some (λ (zs : Unit {0} × (List ℕ × (List ℕ × (List ℕ × (Unit {0} × (Unit {0} × Unit {0})))))). ‵ (lasts complete.ended (k .0 ∷ [], tt) (to k .0 .3) zs) ⊛ raw (fact 𝓤 (stage r (zs .1 .0) (zs .1 .1 .0) (zs .1 .1 .1 .0) ≡ after-it)))) (id⊢ 𝓤 _) $ pick ! (λ zs.
-          split ! $ move ! (1 ∷ []) $ heard ! (stage r (zs .1 .0) (zs .1 .1 .0) (zs .1 .1 .1 .0) ≡ after-it) (λ e.
+          split ! $ move ! (1 ∷ []) $ use1 W (some (λ (zs : Unit {0} × (List ℕ × (List ℕ × (List ℕ × (Unit {0} × (Unit {0} × Unit {0})))))). ‵ (lasts complete.ended (k .0 ∷ [], tt) (to k .0 .3) zs) ⊛ raw (fact 𝓤 (priceStage r (rival (zs .1 .0) (zs .1 .1 .0) (zs .1 .1 .1 .0)) ≡ after-it)))) (id⊢ 𝓤 _) $ pick ! (λ zs.
+          split ! $ move ! (1 ∷ []) $ heard ! (priceStage r (rival (zs .1 .0) (zs .1 .1 .0) (zs .1 .1 .1 .0)) ≡ after-it) (λ e.
           -- what is said of each last list
           fsplit ! $ drop ! $ fsplit ! $ fsplit ! $ move ! (2 ∷ []) $ fsplit ! $ fsplit ! $ move ! (2 ∷ []) $ fsplit ! $ fsplit ! $
           move ! (6 ∷ []) $ feqL ! (λ len-blocks. move ! (4 ∷ []) $ feqL ! (λ len-held. move ! (1 ∷ []) $ feqL ! (λ len-marks.
-          move ! (4 ∷ []) $ split ! $ rewrite ! 1 (λ (x : Stage). ‵ (Pricing-t.the-row .own (x .progress) (w ∷ []))) e refl $ move ! (1 ∷ []) $ facts ! Pricing-t.the-row (Is Pricing-t.the-row) (shows 𝓤 H A Pricing-t.the-row) (after-it .progress) (w ∷ []) (λ is.
+          move ! (4 ∷ []) $ split ! $ rewrite ! 1 (λ (x : PriceStage). ‵ (Pricing-t.the-row .own (x .progress) (w ∷ []))) e refl $ move ! (1 ∷ []) $ facts ! Pricing-t.the-row (Is Pricing-t.the-row) (shows 𝓤 H A Pricing-t.the-row) (after-it .progress) (w ∷ []) (λ is.
           split ! $ lft-end ! tt $ move ! (6 ∷ []) $ split ! $ move ! (1 ∷ []) $ split ! $
           move ! (3 ∷ 2 ∷ 8 ∷ []) $ use3 W (later (‵ (Cells u32 b-blocks o-blocks (zs .1 .0)) ⊛ ‵ (fdead (k .0 ∷ [])))) (slice-returns u32 b-blocks o-blocks 𝓤 H A W (k .0 ∷ []) (k .1) (length blocks) (zs .1 .0)) $ await ! tt $ split ! $
           move ! (1 ∷ 2 ∷ 7 ∷ []) $ use3 W (later (‵ (Cells u32 b-held o-held (zs .1 .1 .0)) ⊛ ‵ (fdead (k .0 ∷ [])))) (slice-returns u32 b-held o-held 𝓤 H A W (k .0 ∷ []) (k .2) (length held) (zs .1 .1 .0)) $ await ! tt $ split ! $
           move ! (1 ∷ 3 ∷ 5 ∷ []) $ use3 W (later (‵ (Cells u32 b-marks o-marks (zs .1 .1 .1 .0)) ⊛ ‵ (fdead (k .0 ∷ [])))) (slice-returns u32 b-marks o-marks 𝓤 H A W (k .0 ∷ []) (k .3) (length marks) (zs .1 .1 .1 .0)) $ await ! tt $ split ! $
-          rewrite ! 3 (λ (x : Stage). ‵ (Cells u32 b-blocks o-blocks (x .copies .blocks))) e refl $ rewrite ! 2 (λ (x : Stage). ‵ (Cells u32 b-held o-held (x .copies .held))) e refl $ rewrite ! 0 (λ (x : Stage). ‵ (Cells u32 b-marks o-marks (x .copies .marks))) e refl $
-          at-once ! $ check ! (record { value = ap only (LL.tells Pricing-t.the-type Pricing-l.the-laws (after-it .progress) (w ∷ []) is); is = subst (Is Pricing-t.the-row (after-it .progress)) (LL.tells Pricing-t.the-type Pricing-l.the-laws (after-it .progress) (w ∷ []) is) is; blocks-len = subst (λ (x : Stage). length (x .copies .blocks) ≡ length blocks) e len-blocks; held-len = subst (λ (x : Stage). length (x .copies .held) ≡ length held) e len-held; marks-len = subst (λ (x : Stage). length (x .copies .marks) ≡ length marks) e len-marks }) $ keep ! (3 ∷ 2 ∷ 0 ∷ []) $ done !)))))))
+          rewrite ! 3 (λ (x : PriceStage). ‵ (Cells u32 b-blocks o-blocks (x .copies .blocks))) e refl $ rewrite ! 2 (λ (x : PriceStage). ‵ (Cells u32 b-held o-held (x .copies .held))) e refl $ rewrite ! 0 (λ (x : PriceStage). ‵ (Cells u32 b-marks o-marks (x .copies .marks))) e refl $
+          at-once ! $ check ! (record { value = ap only (LL.tells Pricing-t.the-type Pricing-l.the-laws (after-it .progress) (w ∷ []) is); is = subst (Is Pricing-t.the-row (after-it .progress)) (LL.tells Pricing-t.the-type Pricing-l.the-laws (after-it .progress) (w ∷ []) is) is; blocks-len = subst (λ (x : PriceStage). length (x .copies .blocks) ≡ length blocks) e len-blocks; held-len = subst (λ (x : PriceStage). length (x .copies .held) ≡ length held) e len-held; marks-len = subst (λ (x : PriceStage). length (x .copies .marks) ≡ length marks) e len-marks }) $ keep ! (3 ∷ 2 ∷ 0 ∷ []) $ done !)))))))

@@ -37,7 +37,8 @@ use Rattle.rival_pricing.proofs.Pricing.Laws as Pricing-l
 use Rattle.protocol.specs.declared.Entry.{Entry}
 use Rattle.protocol.proofs.Entry as Entry-t
 use Rattle.protocol.proofs.Entry.Laws as Entry-l
-use Rattle.rival_pricing.specs.Stages.{Stage, stage, Ready, took}
+use Rattle.protocol.specs.Rival.{rival}
+use Rattle.rival_pricing.specs.Stages.{PriceStage, priceStage, PriceReady, took}
 use Rattle.walks.proofs.Opening.{at-list, slice-at, Cells, Loan, slice-lends, slice-returns}
 use Rattle.rival_schedule.proofs.take as take
 
@@ -60,10 +61,10 @@ module _ {M : Type 1} (𝓤 : URA M) (H : Heap 𝓤) (A : Atoms 𝓤) (mem : Mem
       abbrev pub Out : Key → Item 𝓤
       Out k = ‵ (Loan u32 b-blocks o-blocks (k .0 ∷ []) (k .1) (length blocks)) ⊛ ‵ (Loan u32 b-held o-held (k .0 ∷ []) (k .2) (length held)) ⊛ ‵ (Loan u32 b-marks o-marks (k .0 ∷ []) (k .3) (length marks))
 
-      abbrev pub after-it : Stage
-      after-it = took setup (stage p blocks held marks) entry
+      abbrev pub after-it : PriceStage
+      after-it = took setup (priceStage p (rival blocks held marks)) entry
 
-      module _ (setup-is : Is Setup-t.the-row setup (LL.vals Setup-t.the-type Setup-l.the-laws setup)) (p-is : Is Pricing-t.the-row p (LL.vals Pricing-t.the-type Pricing-l.the-laws p)) (entry-is : Is Entry-t.the-row entry (EL.vals Entry-t.the-type Entry-l.the-laws entry)) (ready : Ready setup (stage p blocks held marks)) where
+      module _ (setup-is : Is Setup-t.the-row setup (LL.vals Setup-t.the-type Setup-l.the-laws setup)) (p-is : Is Pricing-t.the-row p (LL.vals Pricing-t.the-type Pricing-l.the-laws p)) (entry-is : Is Entry-t.the-row entry (EL.vals Entry-t.the-type Entry-l.the-laws entry)) (ready : PriceReady setup (priceStage p (rival blocks held marks))) where
         asked : (k : Key) → ent 𝓤 (mean 𝓤 H A (‵ (flft (k .0 ∷ []) fullShare) ⊛ ‵ (MutSlice (named 0) (k .0 ∷ []) u32 .own (at-list u32 b-blocks o-blocks (k .1) blocks) (slice-at u32 b-blocks o-blocks blocks ∷ [])) ⊛ ‵ (MutSlice (named 0) (k .0 ∷ []) u32 .own (at-list u32 b-held o-held (k .2) held) (slice-at u32 b-held o-held held ∷ [])) ⊛ ‵ (MutSlice (named 0) (k .0 ∷ []) u32 .own (at-list u32 b-marks o-marks (k .3) marks) (slice-at u32 b-marks o-marks marks ∷ [])))) (Called .pre (to k))
         asked k =
             qed W (‵ (flft (k .0 ∷ []) fullShare) ∷ ‵ (MutSlice (named 0) (k .0 ∷ []) u32 .own (at-list u32 b-blocks o-blocks (k .1) blocks) (slice-at u32 b-blocks o-blocks blocks ∷ [])) ∷ ‵ (MutSlice (named 0) (k .0 ∷ []) u32 .own (at-list u32 b-held o-held (k .2) held) (slice-at u32 b-held o-held held ∷ [])) ∷ ‵ (MutSlice (named 0) (k .0 ∷ []) u32 .own (at-list u32 b-marks o-marks (k .3) marks) (slice-at u32 b-marks o-marks marks ∷ [])) ∷ []) ∵ says ! ready $ nothing ! $ owned ! Entry-t.the-row (Is Entry-t.the-row) (EL.makes Entry-t.the-type Entry-l.the-plain 𝓤 H A) entry _ entry-is $ fjoin ! $ owned ! Pricing-t.the-row (Is Pricing-t.the-row) (LL.makes Pricing-t.the-type Pricing-l.the-plain 𝓤 H A) p _ p-is $ fjoin ! $ move ! (4 ∷ 0 ∷ []) $ fjoin ! $ move ! (3 ∷ 0 ∷ []) $ fjoin ! $ move ! (2 ∷ 0 ∷ []) $ fjoin ! $ owned ! Setup-t.the-row (Is Setup-t.the-row) (LL.makes Setup-t.the-type Setup-l.the-plain 𝓤 H A) setup _ setup-is $ fjoin ! $ nothing ! $ move ! (2 ∷ 0 ∷ []) $ join ! $ frame ! $ done !
@@ -88,15 +89,15 @@ module _ {M : Type 1} (𝓤 : URA M) (H : Heap 𝓤) (A : Atoms 𝓤) (mem : Mem
       after k w =
           qed W (raw (Called .post (to k) w) ∷ Out k ∷ []) ∵ updating ! $
           use1 W (later (some (λ (r : Pricing). ((‵ (flft (k .0 ∷ []) fullShare) ⊛ ‵ ftrue) ⊛ ‵ (Pricing-t.the-row .own r (w ∷ []))) ⊛ raw (ensured 𝓤 H A take.ended (take.clauses 𝓤 H A mem run″) (k .0 ∷ [], tt) (to k .0 .3) tt r)))) (id⊢ 𝓤 _) $ await ! tt $ pick ! (λ r.
-          split ! $ move ! (1 ∷ []) $ use1 W (some (λ (zs : Unit {0} × (List ℕ × (List ℕ × (List ℕ × (Unit {0} × (Unit {0} × Unit {0})))))). ‵ (lasts take.ended (k .0 ∷ [], tt) (to k .0 .3) zs) ⊛ raw (fact 𝓤 (stage r (zs .1 .0) (zs .1 .1 .0) (zs .1 .1 .1 .0) ≡ after-it)))) (id⊢ 𝓤 _) $ pick ! (λ zs.
-          split ! $ move ! (1 ∷ []) $ heard ! (stage r (zs .1 .0) (zs .1 .1 .0) (zs .1 .1 .1 .0) ≡ after-it) (λ e.
+          split ! $ move ! (1 ∷ []) $ use1 W (some (λ (zs : Unit {0} × (List ℕ × (List ℕ × (List ℕ × (Unit {0} × (Unit {0} × Unit {0})))))). ‵ (lasts take.ended (k .0 ∷ [], tt) (to k .0 .3) zs) ⊛ raw (fact 𝓤 (priceStage r (rival (zs .1 .0) (zs .1 .1 .0) (zs .1 .1 .1 .0)) ≡ after-it)))) (id⊢ 𝓤 _) $ pick ! (λ zs.
+          split ! $ move ! (1 ∷ []) $ heard ! (priceStage r (rival (zs .1 .0) (zs .1 .1 .0) (zs .1 .1 .1 .0)) ≡ after-it) (λ e.
           -- what is said of each last list
           fsplit ! $ drop ! $ fsplit ! $ fsplit ! $ move ! (2 ∷ []) $ fsplit ! $ fsplit ! $ move ! (2 ∷ []) $ fsplit ! $ fsplit ! $
           move ! (6 ∷ []) $ feqL ! (λ len-blocks. move ! (4 ∷ []) $ feqL ! (λ len-held. move ! (1 ∷ []) $ feqL ! (λ len-marks.
-          move ! (4 ∷ []) $ split ! $ rewrite ! 1 (λ (x : Stage). ‵ (Pricing-t.the-row .own (x .progress) (w ∷ []))) e refl $ move ! (1 ∷ []) $ facts ! Pricing-t.the-row (Is Pricing-t.the-row) (shows 𝓤 H A Pricing-t.the-row) (after-it .progress) (w ∷ []) (λ is.
+          move ! (4 ∷ []) $ split ! $ rewrite ! 1 (λ (x : PriceStage). ‵ (Pricing-t.the-row .own (x .progress) (w ∷ []))) e refl $ move ! (1 ∷ []) $ facts ! Pricing-t.the-row (Is Pricing-t.the-row) (shows 𝓤 H A Pricing-t.the-row) (after-it .progress) (w ∷ []) (λ is.
           split ! $ lft-end ! tt $ move ! (6 ∷ []) $ split ! $ move ! (1 ∷ []) $ split ! $
           move ! (3 ∷ 2 ∷ 8 ∷ []) $ use3 W (later (‵ (Cells u32 b-blocks o-blocks (zs .1 .0)) ⊛ ‵ (fdead (k .0 ∷ [])))) (slice-returns u32 b-blocks o-blocks 𝓤 H A W (k .0 ∷ []) (k .1) (length blocks) (zs .1 .0)) $ await ! tt $ split ! $
           move ! (1 ∷ 2 ∷ 7 ∷ []) $ use3 W (later (‵ (Cells u32 b-held o-held (zs .1 .1 .0)) ⊛ ‵ (fdead (k .0 ∷ [])))) (slice-returns u32 b-held o-held 𝓤 H A W (k .0 ∷ []) (k .2) (length held) (zs .1 .1 .0)) $ await ! tt $ split ! $
           move ! (1 ∷ 3 ∷ 5 ∷ []) $ use3 W (later (‵ (Cells u32 b-marks o-marks (zs .1 .1 .1 .0)) ⊛ ‵ (fdead (k .0 ∷ [])))) (slice-returns u32 b-marks o-marks 𝓤 H A W (k .0 ∷ []) (k .3) (length marks) (zs .1 .1 .1 .0)) $ await ! tt $ split ! $
-          rewrite ! 3 (λ (x : Stage). ‵ (Cells u32 b-blocks o-blocks (x .copies .blocks))) e refl $ rewrite ! 2 (λ (x : Stage). ‵ (Cells u32 b-held o-held (x .copies .held))) e refl $ rewrite ! 0 (λ (x : Stage). ‵ (Cells u32 b-marks o-marks (x .copies .marks))) e refl $
-          at-once ! $ check ! (record { value = ap only (LL.tells Pricing-t.the-type Pricing-l.the-laws (after-it .progress) (w ∷ []) is); is = subst (Is Pricing-t.the-row (after-it .progress)) (LL.tells Pricing-t.the-type Pricing-l.the-laws (after-it .progress) (w ∷ []) is) is; blocks-len = subst (λ (x : Stage). length (x .copies .blocks) ≡ length blocks) e len-blocks; held-len = subst (λ (x : Stage). length (x .copies .held) ≡ length held) e len-held; marks-len = subst (λ (x : Stage). length (x .copies .marks) ≡ length marks) e len-marks }) $ keep ! (3 ∷ 2 ∷ 0 ∷ []) $ done !)))))))
+          rewrite ! 3 (λ (x : PriceStage). ‵ (Cells u32 b-blocks o-blocks (x .copies .blocks))) e refl $ rewrite ! 2 (λ (x : PriceStage). ‵ (Cells u32 b-held o-held (x .copies .held))) e refl $ rewrite ! 0 (λ (x : PriceStage). ‵ (Cells u32 b-marks o-marks (x .copies .marks))) e refl $
+          at-once ! $ check ! (record { value = ap only (LL.tells Pricing-t.the-type Pricing-l.the-laws (after-it .progress) (w ∷ []) is); is = subst (Is Pricing-t.the-row (after-it .progress)) (LL.tells Pricing-t.the-type Pricing-l.the-laws (after-it .progress) (w ∷ []) is) is; blocks-len = subst (λ (x : PriceStage). length (x .copies .blocks) ≡ length blocks) e len-blocks; held-len = subst (λ (x : PriceStage). length (x .copies .held) ≡ length held) e len-held; marks-len = subst (λ (x : PriceStage). length (x .copies .marks) ≡ length marks) e len-marks }) $ keep ! (3 ∷ 2 ∷ 0 ∷ []) $ done !)))))))
