@@ -1,15 +1,14 @@
 -- How many requests and entries a list of numbers names, and where the numbers of each stand. Assumes nothing.
-use Prim.Native.Nat.{ℕ, zero, suc, _+_, _*_, _/_, _<_}
+use Prim.Native.Nat.{ℕ, zero, suc, _/_, _<_}
 use mathlib.Core.Path.{_≡_, refl}
 use mathlib.Core.List.{List, [], _∷_}
 use native.Mathlib.Nat.{suc-mul}
 use native.Mathlib.Numerals.{unary-clauses}
 use native.Mathlib.Omega.{arith}
 use lib.ListN.{length, getD}
-use Rattle.protocol.specs.Lists.{at}
 use Rattle.protocol.specs.declared.Request.{Request}
 use Rattle.protocol.specs.declared.Entry.{Entry}
-use Rattle.host_decoding.specs.Records.{requestOf, requestsOf, entryOf, entriesOf}
+use Rattle.host_decoding.specs.Records.{requestAt, requestsOf, entryAt, entriesOf}
 
 -- ---- four numbers a request
 
@@ -20,8 +19,7 @@ request-count (i ∷ o ∷ []) = refl
 request-count (i ∷ o ∷ v ∷ []) = refl
 request-count (i ∷ o ∷ v ∷ x ∷ ns) = omega (arith, request-count ns)
 
-pub request-at : (ns : List ℕ) (k : ℕ) (d : Request) → k < length ns / 4
-    → requestOf (at ns (k * 4)) (at ns (k * 4 + 1)) (at ns (k * 4 + 2)) (at ns (k * 4 + 3)) ≡ getD (requestsOf ns) k d
+pub request-at : (ns : List ℕ) (k : ℕ) (d : Request) → k < length ns / 4 → requestAt ns k ≡ getD (requestsOf ns) k d
 request-at [] k d h = absurd (omega arith)
 request-at (i ∷ []) k d h = absurd (omega arith)
 request-at (i ∷ o ∷ []) k d h = absurd (omega arith)
@@ -37,8 +35,7 @@ entry-count (k ∷ []) = refl
 entry-count (k ∷ i ∷ []) = refl
 entry-count (k ∷ i ∷ b ∷ ns) = omega (arith, entry-count ns)
 
-pub entry-at : (ns : List ℕ) (n : ℕ) (d : Entry) → n < length ns / 3
-    → entryOf (at ns (n * 3)) (at ns (n * 3 + 1)) (at ns (n * 3 + 2)) ≡ getD (entriesOf ns) n d
+pub entry-at : (ns : List ℕ) (n : ℕ) (d : Entry) → n < length ns / 3 → entryAt ns n ≡ getD (entriesOf ns) n d
 entry-at [] n d h = absurd (omega arith)
 entry-at (k ∷ []) n d h = absurd (omega arith)
 entry-at (k ∷ i ∷ []) n d h = absurd (omega arith)

@@ -1,8 +1,10 @@
 -- The requests and the schedule's entries that lists of numbers name, for hosts that know no other types. Every number names something, so nothing more can be refused.
-use Prim.Native.Nat.{ℕ}
+use Prim.Native.Nat.{ℕ, _+_, _*_}
 use mathlib.Core.Bool.{cond}
 use mathlib.Core.List.{List, [], _∷_}
 use lib.Dec.{eqb}
+use Rattle.protocol.specs.Lists.{at}
+use Rattle.protocol.specs.declared.Operation.{Operation}
 use Rattle.protocol.specs.declared.Operation.the-variants.{Read, Write}
 use Rattle.protocol.specs.declared.Request.{Request}
 use Rattle.protocol.specs.declared.Entry.{Entry}
@@ -10,9 +12,17 @@ use Rattle.protocol.specs.declared.Entry.the-variants.{Fetch, WriteBack, Drop, 
 
 -- ---- requests
 
--- processor i, operation o, variable v, value x: operation 1 writes, any other number reads
+-- operation o, variable v, value x: 1 writes, any other number reads
+unfoldable pub operationOf : ℕ → ℕ → ℕ → Operation
+operationOf o v x = cond (eqb o 1) (Write (record { 0 = v }) x) (Read (record { 0 = v }))
+
+-- processor i and its operation
 unfoldable pub requestOf : ℕ → ℕ → ℕ → ℕ → Request
-requestOf i o v x = record { processor = i; operation = cond (eqb o 1) (Write (record { 0 = v }) x) (Read (record { 0 = v })) }
+requestOf i o v x = record { processor = i; operation = operationOf o v x }
+
+-- the request of the four numbers from number 4 k on
+abbrev pub requestAt : List ℕ → ℕ → Request
+requestAt ns k = requestOf (at ns (k * 4)) (at ns (k * 4 + 1)) (at ns (k * 4 + 2)) (at ns (k * 4 + 3))
 
 -- four numbers at a time; fewer than four at the end name no request
 abbrev pub requestsOf : List ℕ → List Request
@@ -30,6 +40,10 @@ entryOf k i b =
     cond (eqb k 0) (Fetch i (record { 0 = b }))
     (cond (eqb k 1) (WriteBack i (record { 0 = b }))
     (cond (eqb k 2) (Drop i (record { 0 = b })) (cond (eqb k 3) Complete CompleteByBroadcast)))
+
+-- the entry of the three numbers from number 3 k on
+abbrev pub entryAt : List ℕ → ℕ → Entry
+entryAt ns k = entryOf (at ns (k * 3)) (at ns (k * 3 + 1)) (at ns (k * 3 + 2))
 
 -- three numbers at a time; fewer than three at the end name no entry
 abbrev pub entriesOf : List ℕ → List Entry

@@ -5,10 +5,9 @@ use protocol::Operation;
 use protocol::Request;
 use protocol::Variable;
 ghost use mathlib.Core.Path.{_≡_};
-ghost use Prim.Native.Nat.{_+_, _*_, _/_, _<_};
+ghost use Prim.Native.Nat.{_/_, _<_};
 ghost use lib.ListN.{length};
-ghost use Rattle.protocol.specs.Lists.{at};
-ghost use Rattle.host_decoding.specs.Records.{requestOf, requestsOf, entryOf, entriesOf};
+ghost use Rattle.host_decoding.specs.Records.{operationOf, requestOf, requestAt, requestsOf, entryOf, entryAt, entriesOf};
 
 // How many numbers name a request.
 const REQUEST_WIDTH: usize = 4;
@@ -23,26 +22,31 @@ pub fn request_count(numbers: &[u32]) -> usize
     numbers.len() / REQUEST_WIDTH
 }
 
+// An operation by its number, its variable and its value.
+fn operation_of(operation: u32, variable: u32, value: u32) -> Operation
+    ensures { λ r. ⌜ r ≡ operationOf operation variable value ⌝ }
+{
+    if operation == 1 {
+        return Operation::Write(Variable(variable), value);
+    }
+    Operation::Read(Variable(variable))
+}
+
 // A request by its four numbers.
 fn request_of(processor: u32, operation: u32, variable: u32, value: u32) -> Request
     ensures { λ r. ⌜ r ≡ requestOf processor operation variable value ⌝ }
 {
-    if operation == 1 {
-        return Request {
-            processor: processor,
-            operation: Operation::Write(Variable(variable), value),
-        };
-    }
+    let asked = operation_of(operation, variable, value);
     Request {
         processor: processor,
-        operation: Operation::Read(Variable(variable)),
+        operation: asked,
     }
 }
 
 // Request i of a list of numbers.
 pub fn request_at(numbers: &[u32], i: usize) -> Request
     requires { ⌜ i < length (now numbers) / 4 ⌝ }
-    ensures { λ r. ⌜ r ≡ requestOf (at (now (numbers .entry)) (i * 4)) (at (now (numbers .entry)) (i * 4 + 1)) (at (now (numbers .entry)) (i * 4 + 2)) (at (now (numbers .entry)) (i * 4 + 3)) ⌝ }
+    ensures { λ r. ⌜ r ≡ requestAt (now (numbers .entry)) i ⌝ }
 {
     let k = i * REQUEST_WIDTH;
     request_of(numbers[k], numbers[k + 1], numbers[k + 2], numbers[k + 3])
@@ -77,7 +81,7 @@ fn entry_of(kind: u32, processor: u32, block: u32) -> Entry
 // Entry i of a list of numbers.
 pub fn entry_at(numbers: &[u32], i: usize) -> Entry
     requires { ⌜ i < length (now numbers) / 3 ⌝ }
-    ensures { λ r. ⌜ r ≡ entryOf (at (now (numbers .entry)) (i * 3)) (at (now (numbers .entry)) (i * 3 + 1)) (at (now (numbers .entry)) (i * 3 + 2)) ⌝ }
+    ensures { λ r. ⌜ r ≡ entryAt (now (numbers .entry)) i ⌝ }
 {
     let k = i * ENTRY_WIDTH;
     entry_of(numbers[k], numbers[k + 1], numbers[k + 2])

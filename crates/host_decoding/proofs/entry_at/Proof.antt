@@ -1,3 +1,4 @@
+-- The three numbers from number 3 i on name the entry.
 use borrow.Author.Needs.{needs}
 use Rattle.host_decoding.proofs.entry_at.Statement.{statement}
 use Rattle.host_decoding.proofs.entry_at.Tie as tie

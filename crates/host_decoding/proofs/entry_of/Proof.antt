@@ -1,3 +1,4 @@
+-- The first kind that fits decides.
 use borrow.Author.Tests.{eq-eqb, ne-eqb}
 use Rattle.host_decoding.specs.Records.{entryOf}
 use Rattle.host_decoding.proofs.entry_of.Statement.{statement}

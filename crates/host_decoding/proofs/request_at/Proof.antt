@@ -1,3 +1,4 @@
+-- The four numbers from number 4 i on name the request.
 use borrow.Author.Needs.{needs}
 use Rattle.host_decoding.proofs.request_at.Statement.{statement}
 use Rattle.host_decoding.proofs.request_at.Tie as tie
