@@ -1,4 +1,5 @@
--- A look's offset and length name the part that it shows, and where it shows one, its place fits. Assumes nothing.
+-- A look's offset and length name the part that it shows, and where it shows one, its place fits: by what the test of a look tells, and the rows of the words.
+-- Assumes nothing.
 use Prim.Native.Nat.{ℕ, zero, suc, _*_, _≤_, _<_}
 use mathlib.Core.Path.{_≡_, refl, ap}
 use mathlib.Core.Bool.{Bool, true, false, cond}
@@ -12,10 +13,10 @@ use Rattle.protocol.specs.Board.{slot, slots, wordIndex}
 use Rattle.protocol.specs.Runs.{looked}
 use Rattle.protocol.specs.declared.Setup.{Setup}
 use Rattle.protocol.specs.declared.Block.{Block}
+use Rattle.protocol.proofs.Board.{few-line-words}
 use Rattle.protocol.proofs.Rows.{row-end}
 use Rattle.engine_tables.specs.Entries.{seen}
-use Rattle.protocol.proofs.Board.{few-line-words}
-use Rattle.engine_tables.proofs.Tests.{Shown, shown as tells}
+use Rattle.engine_tables.proofs.Tests.{Shown, shown}
 use Rattle.host_looks.specs.Looks.{lookLength, lookOffset}
 
 -- as many of a list as its first n are
@@ -29,17 +30,17 @@ none [] h = refl
 none (x ∷ l) h = absurd (omega arith)
 
 -- a part from index o on, or none, by its own length
-shown : (b : Bool) (words : List ℕ) (o n : ℕ) → (e : Bool) → eqb (length (cond b (part words o n) [])) 0 ≡ e
+part-shown : (b : Bool) (words : List ℕ) (o n : ℕ) → (e : Bool) → eqb (length (cond b (part words o n) [])) 0 ≡ e
     → cond b (part words o n) [] ≡ part words (cond e 0 o) (length (cond b (part words o n) []))
-shown true words o n true h = let z = none (part words o n) (eqb-true (length (part words o n)) 0 h) in rw z refl
-shown true words o n false h = first-ones n (drop o words)
-shown false words o n true h = refl
-shown false words o n false h = refl
+part-shown true words o n true h = let z = none (part words o n) (eqb-true (length (part words o n)) 0 h) in rw z refl
+part-shown true words o n false h = first-ones n (drop o words)
+part-shown false words o n true h = refl
+part-shown false words o n false h = refl
 
 pub looked-part : (s : Setup) (blocks counters words : List ℕ) (i : ℕ) (b : Block)
     → looked s blocks counters words i b ≡ part words (lookOffset s blocks counters words i b) (lookLength s blocks counters words i b)
 unfolding looked lookOffset lookLength seen
-looked-part s blocks counters words i b = shown (seen s blocks counters (length words) i b) words (wordIndex s (slot s i b) 0) (s .words) _ refl
+looked-part s blocks counters words i b = part-shown (seen s blocks counters (length words) i b) words (wordIndex s (slot s i b) 0) (s .words) _ refl
 
 pub offset-none : (s : Setup) (blocks counters words : List ℕ) (i : ℕ) (b : Block) → lookLength s blocks counters words i b ≡ 0 → 0 ≡ lookOffset s blocks counters words i b
 unfolding lookOffset
@@ -56,7 +57,7 @@ module _ (s : Setup) (blocks counters words : List ℕ) (i : ℕ) (b : Block) (a
   is-seen = some (seen s blocks counters (length words) i b) (part words (wordIndex s (slot s i b) 0) (s .words)) any
 
   pub shows : Shown s (length words) i
-  shows = tells s blocks counters (length words) i b is-seen
+  shows = shown s blocks counters (length words) i b is-seen
 
   pub place-fits : (k : ℕ) → k < slots s → k * s .words ≤ 8192
   unfolding wordIndex

@@ -33,5 +33,5 @@ pub fn look_offset(
     if look_length(setup, processor, block, blocks, counters, words) == 0 {
         return 0;
     }
-    engine_holders::slot(setup, processor, block) * setup.words as usize
+    setup.slot(processor, block) * setup.words as usize
 }

@@ -1,3 +1,4 @@
+-- The length of what a look shows.
 use mathlib.Core.Path.{ap}
 use lib.ListN.{length}
 use Rattle.host_looks.specs.Looks.{lookLength}

@@ -1,3 +1,4 @@
+-- Nothing shown begins at 0; else the slot decides, whose place fits where a block is shown: by the laws of Looks.
 use borrow.Author.Needs.{needs}
 use mathlib.Core.Path.{sym, _∙_}
 use native.Mathlib.Omega.{arith}
@@ -19,13 +20,15 @@ slot-requires c κs =
 
 mul-result : tie.Need-mul-result
 mul-result c =
-    let a = c .before .before .before .before .before .before .before .args in
-    omega (arith, place-fits (a .setup) (now (a .blocks)) (now (a .counters)) (now (a .words)) (a .processor) (a .block) (λ z. c .before .before .if1 .left (c .before .before .before .look-length .ensures ∙ z)) (c .before .slot .result) (c .before .slot .ensures .within))
+    let at-look-length = c .before .before .before in
+    let a = at-look-length .before .before .before .before .args in
+    omega (arith, place-fits (a .setup) (now (a .blocks)) (now (a .counters)) (now (a .words)) (a .processor) (a .block) (λ z. c .before .before .if1 .left (at-look-length .look-length .ensures ∙ z)) (c .before .slot .result) (c .before .slot .ensures .within))
 
 returns-2 : tie.Need-returns-2
 returns-2 c =
-    let a = c .before .before .before .before .before .before .before .args in
-    offset-some (a .setup) (now (a .blocks)) (now (a .counters)) (now (a .words)) (a .processor) (a .block) (λ z. c .before .before .if1 .left (c .before .before .before .look-length .ensures ∙ z)) (c .before .slot .result) (c .before .slot .ensures .value)
+    let at-look-length = c .before .before .before in
+    let a = at-look-length .before .before .before .before .args in
+    offset-some (a .setup) (now (a .blocks)) (now (a .counters)) (now (a .words)) (a .processor) (a .block) (λ z. c .before .before .if1 .left (at-look-length .look-length .ensures ∙ z)) (c .before .slot .result) (c .before .slot .ensures .value)
 
 pub look-offset-spec : {M : Type 1} → statement M
 look-offset-spec = tie.close (tie.spec (λ c κs. search needs) returns slot-requires (λ c. search needs) mul-result returns-2)
