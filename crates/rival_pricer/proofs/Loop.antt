@@ -39,8 +39,8 @@ abbrev pub no-request : Request
 no-request = record { processor = 0; operation = Read (record { 0 = 0 }) }
 
 -- a pricing that goes on does not stop
-both : {y : Bool} → y ≡ true → y ≡ false → ⊥
-both t f = true≢false (sym t ∙ f)
+never-both : {y : Bool} → y ≡ true → y ≡ false → ⊥
+never-both t f = true≢false (sym t ∙ f)
 
 -- ---- an entry that is judged with other requests left than the schedule's
 
@@ -119,7 +119,7 @@ module _ (s : Setup) (r : Rival) (es : List Entry) (qs : List Request) where
     -- it stops, and is judged so
     stops : (x : PriceStage) (v : Verdict) → v ≡ verdict s qs es → x .progress .going ≡ false → x .progress .answer ≡ answerTo v → x .copies ≡ copiesAfter s v → Inv x
     stops x v e f p t = record {
-      goes = λ go. absurd (both go f);
+      goes = λ go. absurd (never-both go f);
       answers = λ _. p ∙ ap answerTo e ∙ price-is;
       leaves = λ _. t ∙ ap (copiesAfter s) e ∙ tables-are;
     }
@@ -144,8 +144,8 @@ module _ (s : Setup) (r : Rival) (es : List Entry) (qs : List Request) where
           request = λ z. absurd (true≢false (sym z));
           kind = λ z. absurd (true≢false (sym z));
         };
-        answers = λ f. absurd (both t f);
-        leaves = λ f. absurd (both t f);
+        answers = λ f. absurd (never-both t f);
+        leaves = λ f. absurd (never-both t f);
       }
 
       -- after the last entry

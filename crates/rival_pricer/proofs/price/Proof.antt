@@ -69,17 +69,17 @@ use Rattle.walks.proofs.Frame.{dieAll, blocks as blocks-of, slots, alloc-all, l
 use Rattle.walks.proofs.Opening.{at-list, slice-at, Cells, Opened, slice-opens, slice-closes}
 use Rattle.rival_pricer.proofs.price.Proof.Begin as Begin
 use Rattle.rival_schedule.proofs.begin.Symbol as begin-def
-use Rattle.rival_schedule.proofs.begin.Symbol.{name as #rival-schedule·begin}
+use Rattle.rival_schedule.proofs.begin.Symbol.{name as #rival_schedule·begin}
 use Rattle.rival_schedule.proofs.begin.Met as begin-thm
 use Rattle.rival_pricer.proofs.price.Proof.Complete as Complete
 use Rattle.rival_schedule.proofs.complete.Symbol as complete-def
-use Rattle.rival_schedule.proofs.complete.Symbol.{name as #rival-schedule·complete}
+use Rattle.rival_schedule.proofs.complete.Symbol.{name as #rival_schedule·complete}
 use Rattle.rival_schedule.proofs.complete.Met as complete-thm
 use Rattle.rival_pricer.proofs.price.Proof.Take as Take
 use Rattle.rival_schedule.proofs.take.Symbol as take-def
-use Rattle.rival_schedule.proofs.take.Symbol.{name as #rival-schedule·take}
+use Rattle.rival_schedule.proofs.take.Symbol.{name as #rival_schedule·take}
 use Rattle.rival_schedule.proofs.take.Met as take-thm
-use Rattle.rival_pricer.proofs.price.Key.{name as #rival-pricer·price}
+use Rattle.rival_pricer.proofs.price.Key.{name as #rival_pricer·price}
 use Rattle.rival_pricer.proofs.price as price
 use Rattle.rival_pricer.proofs.price.Statement as stated
 use Rattle.rival_pricer.proofs.price.Code as code
@@ -172,7 +172,7 @@ module _ {M : Type 1} (𝓤 : URA M) (H : Heap 𝓤) (A : Atoms 𝓤) (W : Given
         at-once ! $ suffices ! _ (ends-at 𝓤 H A price.ended stayed (price.clauses 𝓤 H A mem run″) W bound (EL.val PriceAnswer-t.the-type PriceAnswer-l.the-laws (s .progress .answer)) (s .progress .answer) (tt, ((s .copies .blocks), ((s .copies .held), ((s .copies .marks), (tt, (tt, tt)))))) (tt, (blocks-len, (held-len, (marks-len, (tt, (tt, tt))))))) $ says ! done-so $ nothing ! $ move ! (6 ∷ 4 ∷ 2 ∷ 7 ∷ 9 ∷ 0 ∷ []) $ group ! 6 $ frame ! $
         nothing ! $ move ! (5 ∷ 0 ∷ []) $ fjoin ! $ move ! (4 ∷ 0 ∷ []) $ fjoin ! $ move ! (1 ∷ 0 ∷ []) $ fjoin ! $ move ! (1 ∷ 0 ∷ []) $ fjoin ! $ move ! (1 ∷ 0 ∷ []) $ fjoin ! $ owned ! Setup-t.the-row (Is Setup-t.the-row) (LL.makes Setup-t.the-type Setup-l.the-plain 𝓤 H A) setup _ setup-is $ fjoin ! $ frame ! $ owned ! PriceAnswer-t.the-row (Is PriceAnswer-t.the-row) (EL.makes PriceAnswer-t.the-type PriceAnswer-l.the-plain 𝓤 H A) (s .progress .answer) _ end-is $ done !
 
-  module _ (𝓣 : Tables 𝓤 H) (known-begin : Triple 𝓤 (𝓣 .C #rival-schedule·begin) (Begin.Called 𝓤 H A mem run″)) (known-complete : Triple 𝓤 (𝓣 .C #rival-schedule·complete) (Complete.Called 𝓤 H A mem run″)) (known-take : Triple 𝓤 (𝓣 .C #rival-schedule·take) (Take.Called 𝓤 H A mem run″)) where
+  module _ (𝓣 : Tables 𝓤 H) (known-begin : Triple 𝓤 (𝓣 .C #rival_schedule·begin) (Begin.Called 𝓤 H A mem run″)) (known-complete : Triple 𝓤 (𝓣 .C #rival_schedule·complete) (Complete.Called 𝓤 H A mem run″)) (known-take : Triple 𝓤 (𝓣 .C #rival_schedule·take) (Take.Called 𝓤 H A mem run″)) where
     abbrev C : Calls 𝓤 H
     C = 𝓣 .C
 
@@ -332,7 +332,7 @@ module _ {M : Type 1} (𝓤 : URA M) (H : Heap 𝓤) (A : Atoms 𝓤) (W : Given
         first ! $ into-block ! $ loops ! 𝓣 (≺ setup blocks held marks entries requests) (wf setup blocks held marks entries requests) (I l₀ l₁ l₂ l₃ l₄ l₅ l₆ l₇ l₈ l₉ l₁₀ l₁₁ l₁₂ l₁₃ l₁₄ l₁₅ l₁₆ l₁₇ l₁₈ l₁₉ l₂₀ l₂₁ l₂₂ l₂₃ l₂₄ l₂₅ l₂₆ l₂₇ l₂₈ l₂₉ l₃₀ l₃₁ l₃₂ l₃₃ l₃₄) (λ x. turn-at l₀ l₁ l₂ l₃ l₄ l₅ l₆ l₇ l₈ l₉ l₁₀ l₁₁ l₁₂ l₁₃ l₁₄ l₁₅ l₁₆ l₁₇ l₁₈ l₁₉ l₂₀ l₂₁ l₂₂ l₂₃ l₂₄ l₂₅ l₂₆ l₂₇ l₂₈ l₂₉ l₃₀ l₃₁ l₃₂ l₃₃ l₃₄ x (x .at .progress .going) refl)
         (record { at = (priceBegun setup (rival blocks held marks) (length entries) (length requests)); inv = inv-start setup (rival blocks held marks) entries requests; is = told .is; blocks-len = told .blocks-len; held-len = told .held-len; marks-len = told .marks-len })))))
 
-module _ {M : Type 1} (𝓤 : URA M) (H : Heap 𝓤) (A : Atoms 𝓤) (W : Given 𝓤 H A) (mem : Memory → SProp 𝓤) (run″ : Routine → Fun 𝓤) (𝓣 : Tables 𝓤 H) (known-begin : Triple 𝓤 (𝓣 .C #rival-schedule·begin) (Begin.Called 𝓤 H A mem run″)) (known-complete : Triple 𝓤 (𝓣 .C #rival-schedule·complete) (Complete.Called 𝓤 H A mem run″)) (known-take : Triple 𝓤 (𝓣 .C #rival-schedule·take) (Take.Called 𝓤 H A mem run″)) where
+module _ {M : Type 1} (𝓤 : URA M) (H : Heap 𝓤) (A : Atoms 𝓤) (W : Given 𝓤 H A) (mem : Memory → SProp 𝓤) (run″ : Routine → Fun 𝓤) (𝓣 : Tables 𝓤 H) (known-begin : Triple 𝓤 (𝓣 .C #rival_schedule·begin) (Begin.Called 𝓤 H A mem run″)) (known-complete : Triple 𝓤 (𝓣 .C #rival_schedule·complete) (Complete.Called 𝓤 H A mem run″)) (known-take : Triple 𝓤 (𝓣 .C #rival_schedule·take) (Take.Called 𝓤 H A mem run″)) where
   price-walks : Walks 𝓤 H A price.ended stayed (WpFn 𝓤 H (𝓣 .C) (𝓣 .Λ) code.function) (price.clauses 𝓤 H A mem run″)
   price-walks = walked 𝓤 H A price.ended stayed (price.clauses 𝓤 H A mem run″) (WpFn 𝓤 H (𝓣 .C) (𝓣 .Λ) code.function)
       (λ κs. ((LL.vals Setup-t.the-type Setup-l.the-laws), (slice-vals, (slice-vals, (slice-vals, (slice-vals, (slice-vals, tt)))))))
@@ -347,8 +347,8 @@ pub price-spec : {M : Type 1} → stated.statement M
 unfolding code.routine tablesOf
 price-spec 𝓤 H 𝓜 𝓖 𝓡 =
     entered 𝓤 H (tripleOf 𝓤 H (𝓖 .A) price.signature (price.spec 𝓤 H (𝓖 .A) (𝓜 .mem) (𝓡 .run)))
-    (tables 𝓤 H 𝓜 𝓡 code.env .C) (tables 𝓤 H 𝓜 𝓡 code.env .Λ) #rival-pricer·price code.function (code.unfolded 𝓤 H 𝓜 𝓡)
+    (tables 𝓤 H 𝓜 𝓡 code.env .C) (tables 𝓤 H 𝓜 𝓡 code.env .Λ) #rival_pricer·price code.function (code.unfolded 𝓤 H 𝓜 𝓡)
     (price-meets 𝓤 H (𝓖 .A) (givenOf 𝓤 H 𝓜 𝓖) (𝓜 .mem) (𝓡 .run) (tablesOf 𝓤 H 𝓜 (tables 𝓤 H 𝓜 𝓡 code.env))
-    (cited 𝓤 H (Begin.Called 𝓤 H (𝓖 .A) (𝓜 .mem) (𝓡 .run)) 𝓜 𝓡 code.env #rival-schedule·begin begin-def.routine code.calls-rival-schedule·begin (begin-thm.met 𝓤 H 𝓜 𝓖 𝓡))
-    (cited 𝓤 H (Complete.Called 𝓤 H (𝓖 .A) (𝓜 .mem) (𝓡 .run)) 𝓜 𝓡 code.env #rival-schedule·complete complete-def.routine code.calls-rival-schedule·complete (complete-thm.met 𝓤 H 𝓜 𝓖 𝓡))
-    (cited 𝓤 H (Take.Called 𝓤 H (𝓖 .A) (𝓜 .mem) (𝓡 .run)) 𝓜 𝓡 code.env #rival-schedule·take take-def.routine code.calls-rival-schedule·take (take-thm.met 𝓤 H 𝓜 𝓖 𝓡)))
+    (cited 𝓤 H (Begin.Called 𝓤 H (𝓖 .A) (𝓜 .mem) (𝓡 .run)) 𝓜 𝓡 code.env #rival_schedule·begin begin-def.routine code.calls-rival-schedule·begin (begin-thm.met 𝓤 H 𝓜 𝓖 𝓡))
+    (cited 𝓤 H (Complete.Called 𝓤 H (𝓖 .A) (𝓜 .mem) (𝓡 .run)) 𝓜 𝓡 code.env #rival_schedule·complete complete-def.routine code.calls-rival-schedule·complete (complete-thm.met 𝓤 H 𝓜 𝓖 𝓡))
+    (cited 𝓤 H (Take.Called 𝓤 H (𝓖 .A) (𝓜 .mem) (𝓡 .run)) 𝓜 𝓡 code.env #rival_schedule·take take-def.routine code.calls-rival-schedule·take (take-thm.met 𝓤 H 𝓜 𝓖 𝓡)))
