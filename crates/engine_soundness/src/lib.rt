@@ -24,8 +24,7 @@ fn empty_line_sound(setup: Setup, k: usize, blocks: &[u32], marks: &[u32], words
     if marks[k] != 0 {
         return false;
     }
-    let p = setup.words as usize;
-    parts::zero_part(words, k * p, p)
+    parts::zero_row(setup, k, words)
 }
 
 // Whether the copy at slot k, of processor i, equals main memory if unmarked, and is full and alone if marked.
@@ -47,8 +46,7 @@ fn copy_sound(
 {
     let block = blocks[k];
     if marks[k] == 0 {
-        let p = setup.words as usize;
-        return parts::same_part(words, k * p, memory, block as usize * p, p);
+        return parts::same_row(setup, words, k, memory, block as usize);
     }
     if marks[k] != 1 {
         return false;

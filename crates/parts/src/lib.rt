@@ -51,7 +51,7 @@ fn copy_part(from: &[u32], a: usize, to: &mut [u32], b: usize, n: usize)
 }
 
 // Whether the n words from index a are 0.
-pub fn zero_part(words: &[u32], a: usize, n: usize) -> bool
+fn zero_part(words: &[u32], a: usize, n: usize) -> bool
     requires { ⌜ a + n ≤ length (now words) ⌝ }
     ensures { λ r. ⌜ r ≡ all n (λ o. eqb (at (now (words .entry)) (a + o)) 0) ⌝ }
 {
@@ -66,7 +66,7 @@ pub fn zero_part(words: &[u32], a: usize, n: usize) -> bool
 }
 
 // Whether the n words of x from index a are those of y from index b.
-pub fn same_part(x: &[u32], a: usize, y: &[u32], b: usize, n: usize) -> bool
+fn same_part(x: &[u32], a: usize, y: &[u32], b: usize, n: usize) -> bool
     requires { ⌜ (a + n ≤ length (now x)) × (b + n ≤ length (now y)) ⌝ }
     ensures { λ r. ⌜ r ≡ all n (λ o. eqb (at (now (x .entry)) (a + o)) (at (now (y .entry)) (b + o))) ⌝ }
 {
@@ -114,4 +114,22 @@ pub fn copy_row(setup: Setup, from: &[u32], row: usize, to: &mut [u32], into: us
 {
     let n = setup.words as usize;
     copy_part(from, row * n, to, into * n, n);
+}
+
+// Whether the words of a row are 0.
+pub fn zero_row(setup: Setup, row: usize, words: &[u32]) -> bool
+    requires { ⌜ wordIndex setup row 0 + setup .words ≤ length (now words) ⌝ }
+    ensures { λ r. ⌜ r ≡ all (setup .words) (λ o. eqb (at (now (words .entry)) (wordIndex setup row o)) 0) ⌝ }
+{
+    let n = setup.words as usize;
+    zero_part(words, row * n, n)
+}
+
+// Whether the words of row `i` of x are those of row `j` of y.
+pub fn same_row(setup: Setup, x: &[u32], i: usize, y: &[u32], j: usize) -> bool
+    requires { ⌜ (wordIndex setup i 0 + setup .words ≤ length (now x)) × (wordIndex setup j 0 + setup .words ≤ length (now y)) ⌝ }
+    ensures { λ r. ⌜ r ≡ all (setup .words) (λ o. eqb (at (now (x .entry)) (wordIndex setup i o)) (at (now (y .entry)) (wordIndex setup j o))) ⌝ }
+{
+    let n = setup.words as usize;
+    same_part(x, i * n, y, j * n, n)
 }

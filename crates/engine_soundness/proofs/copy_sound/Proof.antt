@@ -4,37 +4,22 @@ use native.Mathlib.Omega.{arith}
 use borrow.Author.Tests.{eq-eqb, ne-eqb}
 use denote.Ref.{now}
 use Rattle.protocol.specs.Lists.{at}
-use Rattle.protocol.specs.Board.{slots, wordIndex}
+use Rattle.protocol.specs.Board.{slots}
 use Rattle.protocol.specs.Soundness.{copyLine}
 use Rattle.protocol.proofs.Rows.{row-end}
 use borrow.Author.Needs.{needs}
 use Rattle.engine_soundness.proofs.copy_sound.Statement.{statement}
 use Rattle.engine_soundness.proofs.copy_sound.Tie as tie
 
-mul-same-part : tie.Need-mul-same-part
-unfolding wordIndex
-mul-same-part c =
-    let start = c .before .before .before .before .before .before .before .before .before in
+same-row-requires : tie.Need-same-row-requires
+same-row-requires c κs =
+    let start = c .before .before .before .before .before .before .before .before in
     let a = start .args in
-    omega (arith, row-end (a .setup) (a .k) (slots (a .setup)) (start .pre .1 .0))
-
-mul-same-part-2 : tie.Need-mul-same-part-2
-unfolding wordIndex
-mul-same-part-2 c =
-    let start = c .before .before .before .before .before .before .before .before .before in
-    let a = start .args in
-    omega (arith, row-end (a .setup) (at (now (a .blocks)) (a .k)) (a .setup .blocks) (start .pre .1 .1 .1))
-
-same-part-requires : tie.Need-same-part-requires
-unfolding wordIndex
-same-part-requires c κs =
-    let start = c .before .before .before .before .before .before .before .before .before in
-    let a = start .args in
-    (omega (arith, row-end (a .setup) (a .k) (slots (a .setup)) (start .pre .1 .0)), omega (arith, row-end (a .setup) (at (now (a .blocks)) (a .k)) (a .setup .blocks) (start .pre .1 .1 .1)))
+    omega (arith, row-end (a .setup) (a .k) (slots (a .setup)) (start .pre .1 .0), row-end (a .setup) (at (now (a .blocks)) (a .k)) (a .setup .blocks) (start .pre .1 .1 .1))
 
 returns : tie.Need-returns
-unfolding copyLine wordIndex
-returns c = rw (eq-eqb _ _ (c .before .before .if1 .taken)) (c .same-part .ensures)
+unfolding copyLine
+returns c = rw (eq-eqb _ _ (c .before .if1 .taken)) (c .same-row .ensures)
 
 returns-2 : tie.Need-returns-2
 unfolding copyLine
@@ -70,10 +55,7 @@ copy-sound-spec =
     (λ c. search needs)
     (λ c. search needs)
     (λ c. search needs)
-    mul-same-part
-    (λ c. search needs)
-    mul-same-part-2
-    same-part-requires
+    same-row-requires
     returns
     (λ c. search needs)
     (λ c. search needs)
