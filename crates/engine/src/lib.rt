@@ -71,10 +71,10 @@ struct Access {
     effect: Effect,
 }
 
-// A processor reads or writes a variable.
+// Processor i reads or writes a variable.
 fn serve_access(
     setup: Setup,
-    processor: u32,
+    i: u32,
     access: Access,
     blocks: &mut [u32],
     counters: &mut [u32],
@@ -83,30 +83,21 @@ fn serve_access(
     memory: &mut [u32],
 ) -> Served
     requires { ⌜ Fits setup ⌝ }
-    requires { ⌜ processor < setup .processors ⌝ }
+    requires { ⌜ i < setup .processors ⌝ }
     requires { ⌜ access .variable .0 < variables setup ⌝ }
     requires { ⌜ Usable setup (lent blocks counters marks words memory) ⌝ }
-    ensures { λ r. ⌜ r .value ≡ valueBy setup (before blocks counters marks words memory) processor (operationOf access) ⌝ }
-    ensures { λ r. ⌜ r .bill ≡ billBy setup (before blocks counters marks words memory) processor (operationOf access) ⌝ }
-    ensures { λ _. ⌜ after blocks counters marks words memory ≡ servedBy setup (before blocks counters marks words memory) processor (operationOf access) ⌝ }
+    ensures { λ r. ⌜ r .value ≡ valueBy setup (before blocks counters marks words memory) i (operationOf access) ⌝ }
+    ensures { λ r. ⌜ r .bill ≡ billBy setup (before blocks counters marks words memory) i (operationOf access) ⌝ }
+    ensures { λ _. ⌜ after blocks counters marks words memory ≡ servedBy setup (before blocks counters marks words memory) i (operationOf access) ⌝ }
 {
     let variable = access.variable;
     let effect = access.effect;
     let block = setup.block_of(variable);
     let offset = setup.offset_of(variable);
-    let bill = obtain(
-        setup,
-        processor,
-        block,
-        blocks,
-        counters,
-        marks,
-        words,
-        memory,
-    );
+    let bill = obtain(setup, i, block, blocks, counters, marks, words, memory);
     match effect {
         Effect::Supply => {
-            let word = word_of(setup, setup.slot(processor, block), offset, words);
+            let word = word_of(setup, setup.slot(i, block), offset, words);
             Served {
                 value: word,
                 bill: bill,
@@ -115,7 +106,7 @@ fn serve_access(
         Effect::Store(value) => {
             let update = write(
                 setup,
-                processor,
+                i,
                 block,
                 offset,
                 value,

@@ -1,6 +1,6 @@
 -- The block is obtained, which keeps the tables' lengths (sized-obtained); then its word is supplied, or the write is done.
 use borrow.Author.Needs.{needs}
-use mathlib.Core.Path.{_≡_, _∙_}
+use mathlib.Core.Path.{_∙_}
 use denote.Ref.{now}
 use Rattle.protocol.specs.Board.{slots}
 use Rattle.protocol.specs.Tables.{tables}
@@ -42,7 +42,7 @@ write-requires c κs =
           rw (block-of′ .block-of .ensures) (block-lt (a .setup) (start .pre .0) (a .access .variable) (start .pre .1 .1 .0)),
           (
             rw (offset-of′ .offset-of .ensures) (offset-lt (a .setup) (start .pre .0) (a .access .variable)),
-            rw (obtain′ .obtain .ensures .1) (sized-obtained (a .setup) t (start .pre .1 .1 .1 .lengths) (a .processor) (block-of′ .block-of .result)),
+            rw (obtain′ .obtain .ensures .1) (sized-obtained (a .setup) t (start .pre .1 .1 .1 .lengths) (a .i) (block-of′ .block-of .result)),
           ),
         ),
       ),

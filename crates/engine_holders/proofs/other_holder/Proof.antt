@@ -34,12 +34,12 @@ loop-holds c =
 
 loop-again : tie.Need-loop-again Inv-loop μ-loop
 loop-again c =
-    let start = c .before .before .before .before .before .before in
-    let loop′ = c .before .before .before .loop in
+    let loop′ = c .before .before .before in
+    let start = loop′ .before .before .before in
     let a = start .args in (
       omega arith,
-      λ m w g. search-passed (otherHolds (a .setup) (tables (now (a .blocks)) (now (a .counters)) m w g) (a .processor) (a .block)) (a .setup .processors) (loop′ .other) _
-          (loop′ .inv .1 m w g) (c .before .other-holds .result) (omega arith) (c .before .other-holds .ensures m w g) (c .if1 .left),
+      λ m w g. search-passed (otherHolds (a .setup) (tables (now (a .blocks)) (now (a .counters)) m w g) (a .processor) (a .block)) (a .setup .processors) (loop′ .loop .other) _
+          (loop′ .loop .inv .1 m w g) (c .before .other-holds .result) (omega arith) (c .before .other-holds .ensures m w g) (c .if1 .left),
     )
 
 returns : tie.Need-returns Inv-loop μ-loop
@@ -51,11 +51,11 @@ returns c m w g =
 
 returns-2 : tie.Need-returns-2 Inv-loop μ-loop
 returns-2 c m w g =
-    let start = c .before .before .before .before .before .before in
-    let loop′ = c .before .before .before .loop in
+    let loop′ = c .before .before .before in
+    let start = loop′ .before .before .before in
     let a = start .args in
-    search-found (otherHolds (a .setup) (tables (now (a .blocks)) (now (a .counters)) m w g) (a .processor) (a .block)) (a .setup .processors) (loop′ .other) _
-    (loop′ .inv .1 m w g) (c .before .other-holds .result) (omega arith) (c .before .other-holds .ensures m w g) (c .if1 .taken)
+    search-found (otherHolds (a .setup) (tables (now (a .blocks)) (now (a .counters)) m w g) (a .processor) (a .block)) (a .setup .processors) (loop′ .loop .other) _
+    (loop′ .loop .inv .1 m w g) (c .before .other-holds .result) (omega arith) (c .before .other-holds .ensures m w g) (c .if1 .taken)
 
 pub other-holder-spec : {M : Type 1} → statement M
 other-holder-spec =

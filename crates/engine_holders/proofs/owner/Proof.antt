@@ -34,12 +34,12 @@ loop-holds c =
 
 loop-again : tie.Need-loop-again Inv-loop μ-loop
 loop-again c =
-    let start = c .before .before .before .before .before .before .before in
-    let loop′ = c .before .before .before .loop in
+    let loop′ = c .before .before .before in
+    let start = loop′ .before .before .before .before in
     let a = start .args in (
       omega arith,
-      λ w g. search-passed (owns (a .setup) (tables (now (a .blocks)) (now (a .counters)) (now (a .marks)) w g) (a .block)) (a .setup .processors) (loop′ .j) _
-          (loop′ .inv .1 w g) (c .before .owns .result) (omega arith) (c .before .owns .ensures w g) (c .if1 .left),
+      λ w g. search-passed (owns (a .setup) (tables (now (a .blocks)) (now (a .counters)) (now (a .marks)) w g) (a .block)) (a .setup .processors) (loop′ .loop .j) _
+          (loop′ .loop .inv .1 w g) (c .before .owns .result) (omega arith) (c .before .owns .ensures w g) (c .if1 .left),
     )
 
 returns : tie.Need-returns Inv-loop μ-loop
@@ -51,11 +51,11 @@ returns c w g =
 
 returns-2 : tie.Need-returns-2 Inv-loop μ-loop
 returns-2 c w g =
-    let start = c .before .before .before .before .before .before .before in
-    let loop′ = c .before .before .before .loop in
+    let loop′ = c .before .before .before in
+    let start = loop′ .before .before .before .before in
     let a = start .args in
-    search-found (owns (a .setup) (tables (now (a .blocks)) (now (a .counters)) (now (a .marks)) w g) (a .block)) (a .setup .processors) (loop′ .j) _
-    (loop′ .inv .1 w g) (c .before .owns .result) (omega arith) (c .before .owns .ensures w g) (c .if1 .taken)
+    search-found (owns (a .setup) (tables (now (a .blocks)) (now (a .counters)) (now (a .marks)) w g) (a .block)) (a .setup .processors) (loop′ .loop .j) _
+    (loop′ .loop .inv .1 w g) (c .before .owns .result) (omega arith) (c .before .owns .ensures w g) (c .if1 .taken)
 
 pub owner-spec : {M : Type 1} → statement M
 owner-spec =

@@ -11,15 +11,16 @@ use Rattle.engine_holders.proofs.owns.Tie as tie
 returns : tie.Need-returns
 unfolding owns holds marked
 returns c w g =
-    let slot′ = c .before .before in
-    let mark = at (slot′ .before .before .before .before .args .marks .now) (slot′ .slot .result) in
-    rw (← (slot′ .slot .ensures .value)) (simp (ne-eqb mark 1 (c .if1 .taken), and-false))
+    let start = c .before .before .before .before .before .before in
+    let mark = at (start .args .marks .now) (c .before .before .slot .result) in
+    rw (← (c .before .before .slot .ensures .value)) (simp (ne-eqb mark 1 (c .if1 .taken), and-false))
 
 returns-2 : tie.Need-returns-2
 unfolding owns holds marked
 returns-2 c w g =
     let slot′ = c .before .before .before in
-    rw (← (slot′ .slot .ensures .value), ← (c .line-holds .ensures (slot′ .before .before .before .before .args .marks .now) w g))
+    let start = slot′ .before .before .before .before in
+    rw (← (slot′ .slot .ensures .value), ← (c .line-holds .ensures (start .args .marks .now) w g))
     (simp (eq-eqb _ _ (c .before .if1 .left), and-true))
 
 pub owns-spec : {M : Type 1} → statement M

@@ -9,7 +9,8 @@ use Rattle.engine_holders.proofs.payer.Tie as tie
 
 returns : tie.Need-returns
 returns c m w g =
-    let a = c .before .before .before .args in
+    let start = c .before .before .before in
+    let a = start .args in
     c .other-holder .ensures m w g ∙ payer-is (a .setup) (tables (now (a .blocks)) (now (a .counters)) m w g) (a .block) (a .processor)
 
 pub payer-spec : {M : Type 1} → statement M

@@ -5,7 +5,6 @@ use mathlib.Core.Path.{_≡_, refl, _∙_}
 use mathlib.Core.List.{List}
 use native.Mathlib.Numerals.{add-one}
 use native.Mathlib.Omega.{arith}
-use denote.Ref.{now}
 use lib.ListN.{length}
 use Rattle.protocol.specs.Tables.{tables, holdsAt, holds}
 use Rattle.protocol.specs.Rules.{updatedCopies}
@@ -28,13 +27,12 @@ loop-holds c = (omega arith, refl, λ m g. refl)
 loop-again : tie.Need-loop-again Inv-loop μ-loop
 unfolding holds holdsAt
 loop-again c =
-    let start = c .before .before .before .before .before .before .before .before .before in
-    let update-copy′ = c .before .before .update-copy in
-    let loop′ = c .before .before .before .before .before .loop in
+    let loop′ = c .before .before .before .before .before in
+    let start = loop′ .before .before .before .before in
     let a = start .args in (
       omega arith,
-      update-copy′ .kept .1 .1 .1 .1 .1 .1 .1 .0 ∙ loop′ .inv .1,
-      λ m g. update-copy′ .ensures m g ∙ rw (add-one, ← (loop′ .inv .2 m g)),
+      c .before .before .update-copy .kept .1 .1 .1 .1 .1 .1 .1 .0 ∙ loop′ .loop .inv .1,
+      λ m g. c .before .before .update-copy .ensures m g ∙ rw (add-one, ← (loop′ .loop .inv .2 m g)),
     )
 
 same-length : tie.Need-same-length Inv-loop μ-loop

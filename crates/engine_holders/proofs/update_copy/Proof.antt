@@ -12,27 +12,25 @@ use Rattle.engine_holders.proofs.update_copy.Tie as tie
 returns : tie.Need-returns
 unfolding holds
 returns c m g =
-    let slot′ = c .before .before in
-    let start = slot′ .before .before .before .before in
-    rw (← (slot′ .slot .ensures .value), ← (c .before .line-holds .ensures m (now (start .args .words)) g), not-true (c .before .line-holds .result) (c .if1 .taken))
+    let start = c .before .before .before .before .before .before in
+    rw (← (c .before .before .slot .ensures .value), ← (c .before .line-holds .ensures m (now (start .args .words)) g), not-true (c .before .line-holds .result) (c .if1 .taken))
 
 set-word-requires : tie.Need-set-word-requires
 set-word-requires c κs =
-    let start = c .before .before .before .before .before .before .before in
-    let slot′ = c .before .before .before .slot in
+    let slot′ = c .before .before .before in
+    let start = slot′ .before .before .before .before in
     let a = start .args in
-    omega (arith, wordIndex-lt (a .setup) (start .pre .0) (slot′ .result) (slots (a .setup)) (a .offset) (slot′ .ensures .within) (start .pre .1 .1 .0))
+    omega (arith, wordIndex-lt (a .setup) (start .pre .0) (slot′ .slot .result) (slots (a .setup)) (a .offset) (slot′ .slot .ensures .within) (start .pre .1 .1 .0))
 
 returns-2 : tie.Need-returns-2
 unfolding holds
 returns-2 c m g =
-    let set-word′ = c .before .before in
-    let if1′ = set-word′ .before .before in
-    let line-holds′ = if1′ .before .line-holds in
-    let slot′ = if1′ .before .before in
+    let if1′ = c .before .before .before .before in
+    let line-holds′ = if1′ .before in
+    let slot′ = line-holds′ .before in
     let start = slot′ .before .before .before .before in
-    rw (← (slot′ .slot .ensures .value), ← (line-holds′ .ensures m (now (start .args .words)) g), not-false (line-holds′ .result) (if1′ .if1 .left))
-    (set-word′ .set-word .ensures)
+    rw (← (slot′ .slot .ensures .value), ← (line-holds′ .line-holds .ensures m (now (start .args .words)) g), not-false (line-holds′ .line-holds .result) (if1′ .if1 .left))
+    (c .before .before .set-word .ensures)
 
 pub update-copy-spec : {M : Type 1} → statement M
 update-copy-spec =

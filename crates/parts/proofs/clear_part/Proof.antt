@@ -7,8 +7,8 @@ use Rattle.parts.proofs.clear_part.Tie as tie
 
 returns : tie.Need-returns
 returns c =
-    let s = c .before .before .before .before .before in
-    part-cleared (now (s .args .words)) (c .before .before .clear .last .0) (s .args .a) (s .args .n) (s .pre) (c .before .before .clear .ensures)
+    let start = c .before .before .before .before .before in
+    part-cleared (now (start .args .words)) (c .before .before .clear .last .0) (start .args .a) (start .args .n) (start .pre) (c .before .before .clear .ensures)
 
 pub clear-part-spec : {M : Type 1} → statement M
 clear-part-spec =

@@ -17,8 +17,7 @@ clear-part-requires c κs = omega arith
 returns : tie.Need-returns
 unfolding wordIndex
 returns c =
-    let clear-part′ = c .before .before .clear-part in
-    rw add-zero (clear-part′ .ensures)
+    rw add-zero (c .before .before .clear-part .ensures)
 
 pub clear-row-spec : {M : Type 1} → statement M
 clear-row-spec = tie.close (tie.spec (λ c. search needs) mul-clear-part clear-part-requires (λ c. search needs) returns)

@@ -28,7 +28,8 @@ loop-again c =
 
 returns : tie.Need-returns Inv-loop μ-loop
 returns c =
-    let a = c .before .before .args in
+    let start = c .before .before in
+    let a = start .args in
     c .before .loop .inv .2 ∙ front-all (now (a .from)) (now (a .to)) (c .before .loop .k) (omega arith) (omega arith)
 
 pub copy-spec : {M : Type 1} → statement M

@@ -7,8 +7,8 @@ use Rattle.parts.proofs.copy_part.Tie as tie
 
 returns : tie.Need-returns
 returns c =
-    let s = c .before .before .before .before .before .before .before in
-    part-copied (now (s .args .to)) (c .before .before .copy .last .1 .0) (now (s .args .from)) (s .args .b) (s .args .a) (s .args .n) (s .pre .1) (s .pre .0)
+    let start = c .before .before .before .before .before .before .before in
+    part-copied (now (start .args .to)) (c .before .before .copy .last .1 .0) (now (start .args .from)) (start .args .b) (start .args .a) (start .args .n) (start .pre .1) (start .pre .0)
     (c .before .before .copy .ensures)
 
 pub copy-part-spec : {M : Type 1} → statement M

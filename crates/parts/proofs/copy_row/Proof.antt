@@ -21,8 +21,7 @@ copy-part-requires c κs = omega arith
 returns : tie.Need-returns
 unfolding wordIndex
 returns c =
-    let copy-part′ = c .before .before .copy-part in
-    simp add-zero (copy-part′ .ensures)
+    simp add-zero (c .before .before .copy-part .ensures)
 
 pub copy-row-spec : {M : Type 1} → statement M
 copy-row-spec =

@@ -28,21 +28,24 @@ loop-holds c = (omega arith, refl)
 
 returns : tie.Need-returns Inv-loop μ-loop
 returns c =
-    let s = c .before .before .before .before .before .args in
-    sym (all-false (sameAt (now (s .x)) (s .a) (now (s .y)) (s .b)) (s .n) (c .before .before .before .before .loop .o) (omega arith) (ne-eqb _ _ (c .if1 .taken)))
+    let loop′ = c .before .before .before .before in
+    let start = loop′ .before in
+    let s = start .args in
+    sym (all-false (sameAt (now (s .x)) (s .a) (now (s .y)) (s .b)) (s .n) (loop′ .loop .o) (omega arith) (ne-eqb _ _ (c .if1 .taken)))
 
 loop-again : tie.Need-loop-again Inv-loop μ-loop
 loop-again c =
-    let s = c .before .before .before .before .before .args in
-    let l = c .before .before .before .before .loop in
-    (omega arith, all-more (sameAt (now (s .x)) (s .a) (now (s .y)) (s .b)) (l .o) (l .inv .1) (eq-eqb _ _ (c .if1 .left)))
+    let loop′ = c .before .before .before .before in
+    let start = loop′ .before in
+    let s = start .args in
+    (omega arith, all-more (sameAt (now (s .x)) (s .a) (now (s .y)) (s .b)) (loop′ .loop .o) (loop′ .loop .inv .1) (eq-eqb _ _ (c .if1 .left)))
 
 returns-2 : tie.Need-returns-2 Inv-loop μ-loop
 returns-2 c =
-    let s = c .before .before .args in
-    let l = c .before .loop in
-    let e : l .o ≡ s .n = omega arith in
-    sym (rw e at (l .inv .1))
+    let start = c .before .before in
+    let s = start .args in
+    let e : c .before .loop .o ≡ s .n = omega arith in
+    sym (rw e at (c .before .loop .inv .1))
 
 pub same-part-spec : {M : Type 1} → statement M
 same-part-spec =
