@@ -58,7 +58,7 @@ price = Loop(
                inv='inv-took %s go flag' % at_turn, falls='falls-took %s go flag' % at_turn, within='at-entry %s go' % at_turn)],
     done='(s .progress .answer ≡ priced %s) × (s .copies ≡ priceTables %s)' % (whole, whole), done_is='inv-end %s stopped' % at_turn,
     inv_params=['setup'] + BUFFERS + ['entries', 'requests'], inv=inv,
-    laws=[(HERE, 'Loop', ['no-entry', 'no-request', 'Inv', 'μ', 'inv-start', 'inv-took', 'falls-took', 'inv-completed', 'falls-completed', 'at-entry', 'at-request', 'due', 'inv-end'])],
+    laws=[('protocol', 'Requests', ['no-request']), (HERE, 'Loop', ['no-entry', 'Inv', 'μ', 'inv-start', 'inv-took', 'falls-took', 'inv-completed', 'falls-completed', 'at-entry', 'at-request', 'due', 'inv-end'])],
     cites=[RIVAL_SPEC, ('protocol', 'Pricer', ['price as priced', 'priceTables']), stages('priceBegun', 'took', 'completed')],
     small=None)
 

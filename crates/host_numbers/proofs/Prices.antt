@@ -10,22 +10,23 @@ use Rattle.protocol.specs.Rival.{Rival}
 use Rattle.protocol.specs.declared.Setup.{Setup}
 use Rattle.protocol.specs.declared.Request.{Request}
 use Rattle.protocol.specs.declared.Entry.{Entry}
-use Rattle.rival_pricing.specs.Stages.{Stage, begun, took, completed}
-use Rattle.rival_pricer.proofs.Loop.{no-entry, no-request, Inv, μ, inv-start, at-entry, inv-took, falls-took, at-request, inv-completed, falls-completed}
+use Rattle.protocol.proofs.Requests.{no-request}
+use Rattle.rival_pricing.specs.Stages.{PriceStage, priceBegun, took, completed}
+use Rattle.rival_pricer.proofs.Loop.{no-entry, Inv, μ, inv-start, at-entry, inv-took, falls-took, at-request, inv-completed, falls-completed}
 use Rattle.host_decoding.specs.Records.{requestOf, requestsOf, entryOf, entriesOf}
 use Rattle.host_decoding.proofs.Decoding.{request-count, request-at as request-is, entry-count, entry-at as entry-is}
 
 module _ (s : Setup) (r : Rival) (ms ns : List ℕ) where
-  abbrev pub Invariant : Stage → Type 0
+  abbrev pub Invariant : PriceStage → Type 0
   Invariant x = Inv s r (entriesOf ms) (requestsOf ns) x
 
-  abbrev pub measure : Stage → ℕ
+  abbrev pub measure : PriceStage → ℕ
   measure x = μ s r (entriesOf ms) (requestsOf ns) x
 
-  pub begins : (m n : ℕ) → m ≡ length (entriesOf ms) → n ≡ length (requestsOf ns) → Invariant (begun s r m n)
+  pub begins : (m n : ℕ) → m ≡ length (entriesOf ms) → n ≡ length (requestsOf ns) → Invariant (priceBegun s r m n)
   begins m n em en = rw (em, en) (inv-start s r (entriesOf ms) (requestsOf ns))
 
-  module _ (x : Stage) (i : Invariant x) (go : x .progress .going ≡ true) where
+  module _ (x : PriceStage) (i : Invariant x) (go : x .progress .going ≡ true) where
     -- ---- an entry
 
     module _ (flag : x .progress .completing ≡ false) where
@@ -36,7 +37,7 @@ module _ (s : Setup) (r : Rival) (ms ns : List ℕ) where
       entry-within = omega (arith, at-entry s r (entriesOf ms) (requestsOf ns) x i go, entry-count ms)
 
       -- the stage after the entry at the place
-      module _ (e : Entry) (is : e ≡ entryOf (at ms (a * 3)) (at ms (a * 3 + 1)) (at ms (a * 3 + 2))) (y : Stage) (after : y ≡ took s x e) where
+      module _ (e : Entry) (is : e ≡ entryOf (at ms (a * 3)) (at ms (a * 3 + 1)) (at ms (a * 3 + 2))) (y : PriceStage) (after : y ≡ took s x e) where
         taken : took s x (getD (entriesOf ms) a no-entry) ≡ y
         taken = ap (took s x) (sym (is ∙ entry-is ms a no-entry entry-within)) ∙ sym after
 
@@ -44,7 +45,7 @@ module _ (s : Setup) (r : Rival) (ms ns : List ℕ) where
         takes = subst Invariant taken (inv-took s r (entriesOf ms) (requestsOf ns) x i go flag)
 
         pub takes-falls : measure y < measure x
-        takes-falls = subst (λ (z : Stage). measure z < measure x) taken (falls-took s r (entriesOf ms) (requestsOf ns) x i go flag)
+        takes-falls = subst (λ (z : PriceStage). measure z < measure x) taken (falls-took s r (entriesOf ms) (requestsOf ns) x i go flag)
 
     -- ---- the request of a completion
 
@@ -56,7 +57,7 @@ module _ (s : Setup) (r : Rival) (ms ns : List ℕ) where
       request-within = omega (arith, at-request s r (entriesOf ms) (requestsOf ns) x i go flag, request-count ns)
 
       -- the stage after the request at the place
-      module _ (q : Request) (is : q ≡ requestOf (at ns (k * 4)) (at ns (k * 4 + 1)) (at ns (k * 4 + 2)) (at ns (k * 4 + 3))) (y : Stage) (after : y ≡ completed s x q) where
+      module _ (q : Request) (is : q ≡ requestOf (at ns (k * 4)) (at ns (k * 4 + 1)) (at ns (k * 4 + 2)) (at ns (k * 4 + 3))) (y : PriceStage) (after : y ≡ completed s x q) where
         done : completed s x (getD (requestsOf ns) k no-request) ≡ y
         done = ap (completed s x) (sym (is ∙ request-is ns k no-request request-within)) ∙ sym after
 
@@ -64,4 +65,4 @@ module _ (s : Setup) (r : Rival) (ms ns : List ℕ) where
         completes = subst Invariant done (inv-completed s r (entriesOf ms) (requestsOf ns) x i go flag)
 
         pub completes-falls : measure y < measure x
-        completes-falls = subst (λ (z : Stage). measure z < measure x) done (falls-completed s r (entriesOf ms) (requestsOf ns) x i go flag)
+        completes-falls = subst (λ (z : PriceStage). measure z < measure x) done (falls-completed s r (entriesOf ms) (requestsOf ns) x i go flag)

@@ -1,4 +1,4 @@
--- run's loop laws (Rattle.run.proofs.Loop) where the requests are numbers. Assumes nothing.
+-- A run's loop laws (Rattle.run_steps.proofs.Loop) where the requests are numbers. Assumes nothing.
 use Prim.Native.Nat.{ℕ, _+_, _*_, _/_, _<_}
 use mathlib.Core.Path.{_≡_, sym, ap, _∙_, subst}
 use mathlib.Core.Bool.{true}
@@ -11,18 +11,21 @@ use Rattle.protocol.specs.Accounts.{nothing}
 use Rattle.protocol.specs.declared.Setup.{Setup}
 use Rattle.protocol.specs.declared.Account.{Account}
 use Rattle.protocol.specs.declared.Request.{Request}
-use Rattle.run_steps.specs.Steps.{Room, Stage, begun, turned}
-use Rattle.run.proofs.Loop.{no-request, Small, Inv, μ, inv-start, inv-within, inv-turn, inv-falls}
+use Rattle.protocol.specs.Runs.{runRefusal, engine}
+use Rattle.protocol.proofs.Requests.{no-request}
+use Rattle.run_progress.specs.Progress.{Room, RunStage, runStage, begun, turned}
+use Rattle.run_progress.proofs.Loop.{Small}
+use Rattle.run_steps.proofs.Loop.{Inv, μ, inv-start, inv-within, inv-turn, inv-falls}
 use Rattle.host_decoding.specs.Records.{requestOf, requestsOf}
 use Rattle.host_decoding.proofs.Decoding.{request-count, request-at}
 
 module _ (s : Setup) (t : Tables) (a : Account) (ns : List ℕ) (vs : List ℕ) where
-  pub begins : Room a 0 nothing → (n : ℕ) → n ≡ length (requestsOf ns) → Inv s t a (requestsOf ns) vs (record { progress = begun s t a n vs; tables = t; values = vs })
+  pub begins : Room a 0 nothing → (n : ℕ) → n ≡ length (requestsOf ns) → Inv s t a (requestsOf ns) vs (runStage (begun (runRefusal s t a n vs) a n) t vs)
   begins h n e =
       let small : Small a = (omega (arith, h .requests), (omega (arith, h .fetch), (omega (arith, h .write-back), omega (arith, h .update)))) in
       rw e (inv-start s t a (requestsOf ns) vs small)
 
-  module _ (x : Stage) (i : Inv s t a (requestsOf ns) vs x) (go : x .progress .going ≡ true) where
+  module _ (x : RunStage Tables) (i : Inv s t a (requestsOf ns) vs x) (go : x .progress .going ≡ true) where
     abbrev k : ℕ
     k = x .progress .answer .taken
 
@@ -30,12 +33,12 @@ module _ (s : Setup) (t : Tables) (a : Account) (ns : List ℕ) (vs : List ℕ) 
     within = omega (arith, inv-within s t a (requestsOf ns) vs x i go, request-count ns)
 
     -- the stage after the request at the place
-    module _ (q : Request) (is : q ≡ requestOf (at ns (k * 4)) (at ns (k * 4 + 1)) (at ns (k * 4 + 2)) (at ns (k * 4 + 3))) (y : Stage) (after : y ≡ turned s x q) where
-      next : turned s x (getD (requestsOf ns) k no-request) ≡ y
-      next = ap (turned s x) (sym (is ∙ request-at ns k no-request within)) ∙ sym after
+    module _ (q : Request) (is : q ≡ requestOf (at ns (k * 4)) (at ns (k * 4 + 1)) (at ns (k * 4 + 2)) (at ns (k * 4 + 3))) (y : RunStage Tables) (after : y ≡ turned (engine s) x q) where
+      next : turned (engine s) x (getD (requestsOf ns) k no-request) ≡ y
+      next = ap (turned (engine s) x) (sym (is ∙ request-at ns k no-request within)) ∙ sym after
 
       pub turns : Inv s t a (requestsOf ns) vs y
       turns = subst (Inv s t a (requestsOf ns) vs) next (inv-turn s t a (requestsOf ns) vs x i go)
 
       pub falls : μ s t a (requestsOf ns) vs y < μ s t a (requestsOf ns) vs x
-      falls = subst (λ (z : Stage). μ s t a (requestsOf ns) vs z < μ s t a (requestsOf ns) vs x) next (inv-falls s t a (requestsOf ns) vs x i go)
+      falls = subst (λ (z : RunStage Tables). μ s t a (requestsOf ns) vs z < μ s t a (requestsOf ns) vs x) next (inv-falls s t a (requestsOf ns) vs x i go)

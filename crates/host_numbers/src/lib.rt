@@ -4,13 +4,13 @@ use protocol::PriceAnswer;
 use protocol::RunAnswer;
 use protocol::Setup;
 ghost use mathlib.Core.Path.{_≡_};
-ghost use Rattle.protocol.specs.Tables.{tables};
-ghost use Rattle.protocol.specs.Runs.{run as ran};
-ghost use Rattle.protocol.specs.Rival.{rival};
+ghost use Rattle.protocol.specs.Lent.{before, after};
+ghost use Rattle.protocol.specs.Engines.{run as ran};
+ghost use Rattle.protocol.specs.Runs.{engine};
 ghost use Rattle.protocol.specs.Pricer.{price as priced, priceTables};
 ghost use Rattle.protocol.specs.Accounts.{nothing};
-ghost use Rattle.run_steps.specs.Steps.{Room};
-ghost use Rattle.run.specs.Outcomes.{outcome};
+ghost use Rattle.rival_copies.specs.Copies.{rivalBefore, rivalAfter};
+ghost use Rattle.run_progress.specs.Progress.{Room, outcome};
 ghost use Rattle.host_decoding.specs.Records.{requestsOf, entriesOf};
 ghost use Rattle.host_numbers.specs.Numbers.{accountOf};
 
@@ -44,8 +44,8 @@ pub fn run(
     requests: &[u32],
     values: &mut [u32],
 ) -> Ran
-    ensures { λ r. ⌜ outcome (r .answer) (tables (now (blocks .exit)) (now (counters .exit)) (now (marks .exit)) (now (words .exit)) (now (memory .exit))) (r .account) (now (values .exit))
-        ≡ ran setup (tables (now (blocks .entry)) (now (counters .entry)) (now (marks .entry)) (now (words .entry)) (now (memory .entry))) account (requestsOf (now (requests .entry))) (now (values .entry)) ⌝ }
+    ensures { λ r. ⌜ outcome (r .answer) (after blocks counters marks words memory) (r .account) (now (values .exit))
+        ≡ ran (engine setup) (before blocks counters marks words memory) account (requestsOf (now (requests .entry))) (now (values .entry)) ⌝ }
 {
     let start = account_of(
         account.requests,
@@ -80,10 +80,10 @@ pub fn run(
         );
     }
     let answer = p.answer;
-    let after = run::counted(start, run::growth(p));
+    let grown = run_progress::grow(start, run_progress::growth(p));
     Ran {
         answer: answer,
-        account: after,
+        account: grown,
     }
 }
 
@@ -96,8 +96,8 @@ pub fn price(
     entries: &[u32],
     requests: &[u32],
 ) -> PriceAnswer
-    ensures { λ r. ⌜ (r ≡ priced setup (rival (now (blocks .entry)) (now (held .entry)) (now (marks .entry))) (requestsOf (now (requests .entry))) (entriesOf (now (entries .entry))))
-        × (rival (now (blocks .exit)) (now (held .exit)) (now (marks .exit)) ≡ priceTables setup (rival (now (blocks .entry)) (now (held .entry)) (now (marks .entry))) (requestsOf (now (requests .entry))) (entriesOf (now (entries .entry)))) ⌝ }
+    ensures { λ r. ⌜ (r ≡ priced setup (rivalBefore blocks held marks) (requestsOf (now (requests .entry))) (entriesOf (now (entries .entry))))
+        × (rivalAfter blocks held marks ≡ priceTables setup (rivalBefore blocks held marks) (requestsOf (now (requests .entry))) (entriesOf (now (entries .entry)))) ⌝ }
 {
     let entry_count = host_decoding::entry_count(entries);
     let request_count = host_decoding::request_count(requests);

@@ -18,25 +18,22 @@ use Rattle.protocol.specs.Accounts.{nothing, plus, cycles}
 use Rattle.protocol.specs.Rival.{Rival, RivalSized, noCopies, played, left, cost, refusal, endRefusal}
 use Rattle.protocol.specs.Pricer.{Verdict, accepted, refused, ending, judged, verdict, priceEntryLimit, priceRefusal, answerTo, price, copiesAfter, priceTables}
 use Rattle.protocol.specs.declared.Setup.{Setup}
-use Rattle.protocol.specs.declared.Operation.the-variants.{Read}
 use Rattle.protocol.specs.declared.Request.{Request}
 use Rattle.protocol.specs.declared.Bill.{Bill}
 use Rattle.protocol.specs.declared.Entry.{Entry}
 use Rattle.protocol.specs.declared.Entry.the-variants.{Fetch, WriteBack, Drop, Complete, CompleteByBroadcast}
 use Rattle.protocol.specs.declared.PriceAnswer.the-variants.{Accepted, Refused}
 use Rattle.protocol.proofs.Laws.{choice, both-true}
+use Rattle.protocol.proofs.Requests.{no-request}
 use Rattle.protocol.proofs.Rival.{sized-noCopies, sized-played}
 use Rattle.rival_copies.specs.Copies.{completion}
 use Rattle.rival_pricing.specs.declared.Pricing.{Pricing}
 use Rattle.rival_pricing.specs.Stages.{completes, broadcasts, awaits, PriceStage, priceStage, pricingAt, advanced, waiting, pricingStopped, rejected, reached, priceTurned, priceBegun, took, completed, PriceReady, Due}
 use Rattle.rival_schedule.proofs.Laws.{price-passed, cheap}
 
--- what the lists have outside
+-- what the list of entries has outside
 abbrev pub no-entry : Entry
 no-entry = Complete
-
-abbrev pub no-request : Request
-no-request = record { processor = 0; operation = Read (record { 0 = 0 }) }
 
 -- a pricing that goes on does not stop
 never-both : {y : Bool} → y ≡ true → y ≡ false → ⊥

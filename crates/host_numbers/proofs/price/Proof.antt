@@ -3,7 +3,7 @@ use mathlib.Core.Path.{_≡_, refl}
 use denote.Ref.{now}
 use lib.ListN.{length}
 use Rattle.protocol.specs.Rival.{Rival, rival}
-use Rattle.rival_pricing.specs.Stages.{stage}
+use Rattle.rival_pricing.specs.Stages.{priceStage}
 use Rattle.rival_pricer.proofs.Loop.{due, inv-end}
 use Rattle.host_decoding.specs.Records.{requestsOf, entriesOf}
 use Rattle.host_numbers.proofs.Prices.{Invariant, measure, begins, request-within, completes, completes-falls, entry-within, takes, takes-falls}
@@ -21,19 +21,19 @@ use Rattle.rival_schedule.proofs.take.Reads as take-reads
 
 abbrev Inv-loop : tie.InvT-loop
 Inv-loop setup blocks₀ held₀ marks₀ entries requests entry-count request-count p₀ blocks held marks p =
-    ((r : Rival) → Invariant setup r entries requests (stage p₀ blocks₀ held₀ marks₀) → Invariant setup r entries requests (stage p blocks held marks))
+    ((r : Rival) → Invariant setup r entries requests (priceStage p₀ (rival blocks₀ held₀ marks₀)) → Invariant setup r entries requests (priceStage p (rival blocks held marks)))
     × (length blocks ≡ length blocks₀) × (length held ≡ length held₀) × (length marks ≡ length marks₀)
 
 abbrev μ-loop : tie.MeasureT-loop
 μ-loop setup blocks₀ held₀ marks₀ entries requests entry-count request-count p₀ blocks held marks p =
-    measure setup (rival blocks₀ held₀ marks₀) entries requests (stage p blocks held marks)
+    measure setup (rival blocks₀ held₀ marks₀) entries requests (priceStage p (rival blocks held marks))
 
 loop-holds : tie.Need-loop-holds Inv-loop μ-loop
 loop-holds c = (λ r i. i, refl, refl, refl)
 
 -- what the loop began with is the start of the whole pricing
 here : (c : tie.At-loop Inv-loop μ-loop)
-    → Invariant (c .before .before .before .before .before .before .before .before .before .before .before .before .before .before .before .before .before .before .args .setup) (rival (now (c .before .before .before .before .before .before .before .before .before .before .before .before .before .before .before .before .before .before .args .blocks)) (now (c .before .before .before .before .before .before .before .before .before .before .before .before .before .before .before .before .before .before .args .held)) (now (c .before .before .before .before .before .before .before .before .before .before .before .before .before .before .before .before .before .before .args .marks))) (now (c .before .before .before .before .before .before .before .before .before .before .before .before .before .before .before .before .before .before .args .entries)) (now (c .before .before .before .before .before .before .before .before .before .before .before .before .before .before .before .before .before .before .args .requests)) (stage (c .loop .p) (c .loop .blocks) (c .loop .held) (c .loop .marks))
+    → Invariant (c .before .before .before .before .before .before .before .before .before .before .before .before .before .before .before .before .before .before .args .setup) (rival (now (c .before .before .before .before .before .before .before .before .before .before .before .before .before .before .before .before .before .before .args .blocks)) (now (c .before .before .before .before .before .before .before .before .before .before .before .before .before .before .before .before .before .before .args .held)) (now (c .before .before .before .before .before .before .before .before .before .before .before .before .before .before .before .before .before .before .args .marks))) (now (c .before .before .before .before .before .before .before .before .before .before .before .before .before .before .before .before .before .before .args .entries)) (now (c .before .before .before .before .before .before .before .before .before .before .before .before .before .before .before .before .before .before .args .requests)) (priceStage (c .loop .p) (rival (c .loop .blocks) (c .loop .held) (c .loop .marks)))
 here c =
     let a = c .before .before .before .before .before .before .before .before .before .before .before .before .before .before .before .before .before .before .args in
     let m = c .before .before .before .before .before .before .before .before .before .before .before .before .entry-count in
@@ -44,31 +44,31 @@ request-at-requires : tie.Need-request-at-requires Inv-loop μ-loop
 request-at-requires c κs =
     let a = c .before .before .before .before .before .before .before .before .before .before .before .before .before .before .before .before .before .before .before .before .args in
     let l = c .before .before .loop in
-    request-within (a .setup) (rival (now (a .blocks)) (now (a .held)) (now (a .marks))) (now (a .entries)) (now (a .requests)) (stage (l .p) (l .blocks) (l .held) (l .marks)) (here (c .before .before)) (c .before .loop-test .taken) (c .if1 .taken)
+    request-within (a .setup) (rival (now (a .blocks)) (now (a .held)) (now (a .marks))) (now (a .entries)) (now (a .requests)) (priceStage (l .p) (rival (l .blocks) (l .held) (l .marks))) (here (c .before .before)) (c .before .loop-test .taken) (c .if1 .taken)
 
 complete-requires : tie.Need-complete-requires Inv-loop μ-loop
 complete-requires c κs =
     let a = c .before .before .before .before .before .before .before .before .before .before .before .before .before .before .before .before .before .before .before .before .before .before .before .before .args in
     let l = c .before .before .before .before .before .before .loop in
-    due (a .setup) (rival (now (a .blocks)) (now (a .held)) (now (a .marks))) (entriesOf (now (a .entries))) (requestsOf (now (a .requests))) (stage (l .p) (l .blocks) (l .held) (l .marks)) (here (c .before .before .before .before .before .before)) (c .before .before .before .before .before .loop-test .taken) (c .before .before .before .before .if1 .taken)
+    due (a .setup) (rival (now (a .blocks)) (now (a .held)) (now (a .marks))) (entriesOf (now (a .entries))) (requestsOf (now (a .requests))) (priceStage (l .p) (rival (l .blocks) (l .held) (l .marks))) (here (c .before .before .before .before .before .before)) (c .before .before .before .before .before .loop-test .taken) (c .before .before .before .before .if1 .taken)
 
 loop-less : tie.Need-loop-less Inv-loop μ-loop
 loop-less c =
     let a = c .before .before .before .before .before .before .before .before .before .before .before .before .before .before .before .before .before .before .before .before .before .before .before .before .before .before .before .before .before .before .before .args in
     let l = c .before .before .before .before .before .before .before .before .before .before .before .before .before .loop in
-    completes-falls (a .setup) (rival (now (a .blocks)) (now (a .held)) (now (a .marks))) (now (a .entries)) (now (a .requests)) (stage (l .p) (l .blocks) (l .held) (l .marks)) (here (c .before .before .before .before .before .before .before .before .before .before .before .before .before)) (c .before .before .before .before .before .before .before .before .before .before .before .before .loop-test .taken) (c .before .before .before .before .before .before .before .before .before .before .before .if1 .taken) (c .before .before .before .before .before .before .before .before .before .before .request-at .result) (c .before .before .before .before .before .before .before .before .before .before .request-at .ensures) _ (c .before .before .before .before .before .before .complete .ensures)
+    completes-falls (a .setup) (rival (now (a .blocks)) (now (a .held)) (now (a .marks))) (now (a .entries)) (now (a .requests)) (priceStage (l .p) (rival (l .blocks) (l .held) (l .marks))) (here (c .before .before .before .before .before .before .before .before .before .before .before .before .before)) (c .before .before .before .before .before .before .before .before .before .before .before .before .loop-test .taken) (c .before .before .before .before .before .before .before .before .before .before .before .if1 .taken) (c .before .before .before .before .before .before .before .before .before .before .request-at .result) (c .before .before .before .before .before .before .before .before .before .before .request-at .ensures) _ (c .before .before .before .before .before .before .complete .ensures)
 
 loop-again : tie.Need-loop-again Inv-loop μ-loop
 loop-again c =
     let a = c .before .before .before .before .before .before .before .before .before .before .before .before .before .before .before .before .before .before .before .before .before .before .before .before .before .before .before .before .before .before .before .args in
     let l = c .before .before .before .before .before .before .before .before .before .before .before .before .before .loop in
-    (λ r i. completes (a .setup) r (now (a .entries)) (now (a .requests)) (stage (l .p) (l .blocks) (l .held) (l .marks)) (l .inv .0 r i) (c .before .before .before .before .before .before .before .before .before .before .before .before .loop-test .taken) (c .before .before .before .before .before .before .before .before .before .before .before .if1 .taken) (c .before .before .before .before .before .before .before .before .before .before .request-at .result) (c .before .before .before .before .before .before .before .before .before .before .request-at .ensures) _ (c .before .before .before .before .before .before .complete .ensures), search needs, search needs, search needs)
+    (λ r i. completes (a .setup) r (now (a .entries)) (now (a .requests)) (priceStage (l .p) (rival (l .blocks) (l .held) (l .marks))) (l .inv .0 r i) (c .before .before .before .before .before .before .before .before .before .before .before .before .loop-test .taken) (c .before .before .before .before .before .before .before .before .before .before .before .if1 .taken) (c .before .before .before .before .before .before .before .before .before .before .request-at .result) (c .before .before .before .before .before .before .before .before .before .before .request-at .ensures) _ (c .before .before .before .before .before .before .complete .ensures), search needs, search needs, search needs)
 
 entry-at-requires : tie.Need-entry-at-requires Inv-loop μ-loop
 entry-at-requires c κs =
     let a = c .before .before .before .before .before .before .before .before .before .before .before .before .before .before .before .before .before .before .before .before .args in
     let l = c .before .before .loop in
-    entry-within (a .setup) (rival (now (a .blocks)) (now (a .held)) (now (a .marks))) (now (a .entries)) (now (a .requests)) (stage (l .p) (l .blocks) (l .held) (l .marks)) (here (c .before .before)) (c .before .loop-test .taken) (c .if1 .left)
+    entry-within (a .setup) (rival (now (a .blocks)) (now (a .held)) (now (a .marks))) (now (a .entries)) (now (a .requests)) (priceStage (l .p) (rival (l .blocks) (l .held) (l .marks))) (here (c .before .before)) (c .before .loop-test .taken) (c .if1 .left)
 
 take-requires : tie.Need-take-requires Inv-loop μ-loop
 take-requires c κs =
@@ -78,19 +78,19 @@ loop-less-2 : tie.Need-loop-less-2 Inv-loop μ-loop
 loop-less-2 c =
     let a = c .before .before .before .before .before .before .before .before .before .before .before .before .before .before .before .before .before .before .before .before .before .before .before .before .before .before .before .before .before .before .before .args in
     let l = c .before .before .before .before .before .before .before .before .before .before .before .before .before .loop in
-    takes-falls (a .setup) (rival (now (a .blocks)) (now (a .held)) (now (a .marks))) (now (a .entries)) (now (a .requests)) (stage (l .p) (l .blocks) (l .held) (l .marks)) (here (c .before .before .before .before .before .before .before .before .before .before .before .before .before)) (c .before .before .before .before .before .before .before .before .before .before .before .before .loop-test .taken) (c .before .before .before .before .before .before .before .before .before .before .before .if1 .left) (c .before .before .before .before .before .before .before .before .before .before .entry-at .result) (c .before .before .before .before .before .before .before .before .before .before .entry-at .ensures) _ (c .before .before .before .before .before .before .take .ensures)
+    takes-falls (a .setup) (rival (now (a .blocks)) (now (a .held)) (now (a .marks))) (now (a .entries)) (now (a .requests)) (priceStage (l .p) (rival (l .blocks) (l .held) (l .marks))) (here (c .before .before .before .before .before .before .before .before .before .before .before .before .before)) (c .before .before .before .before .before .before .before .before .before .before .before .before .loop-test .taken) (c .before .before .before .before .before .before .before .before .before .before .before .if1 .left) (c .before .before .before .before .before .before .before .before .before .before .entry-at .result) (c .before .before .before .before .before .before .before .before .before .before .entry-at .ensures) _ (c .before .before .before .before .before .before .take .ensures)
 
 loop-again-2 : tie.Need-loop-again-2 Inv-loop μ-loop
 loop-again-2 c =
     let a = c .before .before .before .before .before .before .before .before .before .before .before .before .before .before .before .before .before .before .before .before .before .before .before .before .before .before .before .before .before .before .before .args in
     let l = c .before .before .before .before .before .before .before .before .before .before .before .before .before .loop in
-    (λ r i. takes (a .setup) r (now (a .entries)) (now (a .requests)) (stage (l .p) (l .blocks) (l .held) (l .marks)) (l .inv .0 r i) (c .before .before .before .before .before .before .before .before .before .before .before .before .loop-test .taken) (c .before .before .before .before .before .before .before .before .before .before .before .if1 .left) (c .before .before .before .before .before .before .before .before .before .before .entry-at .result) (c .before .before .before .before .before .before .before .before .before .before .entry-at .ensures) _ (c .before .before .before .before .before .before .take .ensures), search needs, search needs, search needs)
+    (λ r i. takes (a .setup) r (now (a .entries)) (now (a .requests)) (priceStage (l .p) (rival (l .blocks) (l .held) (l .marks))) (l .inv .0 r i) (c .before .before .before .before .before .before .before .before .before .before .before .before .loop-test .taken) (c .before .before .before .before .before .before .before .before .before .before .before .if1 .left) (c .before .before .before .before .before .before .before .before .before .before .entry-at .result) (c .before .before .before .before .before .before .before .before .before .before .entry-at .ensures) _ (c .before .before .before .before .before .before .take .ensures), search needs, search needs, search needs)
 
 returns : tie.Need-returns Inv-loop μ-loop
 returns c =
     let a = c .before .before .before .before .before .before .before .before .before .before .before .before .before .before .before .before .before .before .before .args in
     let l = c .before .loop in
-    inv-end (a .setup) (rival (now (a .blocks)) (now (a .held)) (now (a .marks))) (entriesOf (now (a .entries))) (requestsOf (now (a .requests))) (stage (l .p) (l .blocks) (l .held) (l .marks)) (here (c .before)) (c .loop-test .left)
+    inv-end (a .setup) (rival (now (a .blocks)) (now (a .held)) (now (a .marks))) (entriesOf (now (a .entries))) (requestsOf (now (a .requests))) (priceStage (l .p) (rival (l .blocks) (l .held) (l .marks))) (here (c .before)) (c .loop-test .left)
 
 pub price-spec : {M : Type 1} → statement M
 price-spec =

@@ -4,11 +4,11 @@ use denote.Ref.{now}
 use native.Mathlib.Omega.{arith}
 use lib.ListN.{length}
 use Rattle.protocol.specs.Tables.{tables}
-use Rattle.protocol.specs.Runs.{run as ran}
+use Rattle.protocol.specs.Engines.{run as ran}
+use Rattle.protocol.specs.Runs.{engine}
 use Rattle.protocol.specs.declared.Account.{Account}
-use Rattle.run_steps.specs.Steps.{stage}
-use Rattle.run.specs.Outcomes.{grown, outcome}
-use Rattle.run.proofs.Loop.{Inv, μ, inv-count, inv-room, inv-end}
+use Rattle.run_progress.specs.Progress.{runStage, grown, outcome}
+use Rattle.run_steps.proofs.Loop.{Inv, μ, inv-count, inv-room, inv-end}
 use Rattle.host_decoding.specs.Records.{requestsOf}
 use Rattle.host_numbers.proofs.Runs.{begins, within, turns, falls}
 use Rattle.host_numbers.proofs.run.Statement.{statement}
@@ -18,19 +18,19 @@ use Rattle.host_numbers.proofs.run.Lts as lts
 use Rattle.host_numbers.proofs.account_of.Reads as account-of-reads
 use Rattle.host_decoding.proofs.request_at.Reads as request-at-reads
 use Rattle.host_decoding.proofs.request_count.Reads as request-count-reads
-use Rattle.run.proofs.counted.Reads as counted-reads
-use Rattle.run.proofs.growth.Reads as growth-reads
+use Rattle.run_progress.proofs.grow.Reads as grow-reads
+use Rattle.run_progress.proofs.growth.Reads as growth-reads
 use Rattle.run_steps.proofs.begin.Reads as begin-reads
 use Rattle.run_steps.proofs.turn.Reads as turn-reads
 
 abbrev Inv-loop : tie.InvT-loop
 Inv-loop setup blocks₀ counters₀ marks₀ words₀ memory₀ requests values₀ start count p₀ blocks counters marks words memory values p =
-    Inv setup (tables blocks₀ counters₀ marks₀ words₀ memory₀) start (requestsOf requests) values₀ (stage p blocks counters marks words memory values)
+    Inv setup (tables blocks₀ counters₀ marks₀ words₀ memory₀) start (requestsOf requests) values₀ (runStage p (tables blocks counters marks words memory) values)
     × (length blocks ≡ length blocks₀) × (length counters ≡ length counters₀) × (length marks ≡ length marks₀) × (length words ≡ length words₀) × (length memory ≡ length memory₀) × (length values ≡ length values₀)
 
 abbrev μ-loop : tie.MeasureT-loop
 μ-loop setup blocks₀ counters₀ marks₀ words₀ memory₀ requests values₀ start count p₀ blocks counters marks words memory values p =
-    μ setup (tables blocks₀ counters₀ marks₀ words₀ memory₀) start (requestsOf requests) values₀ (stage p blocks counters marks words memory values)
+    μ setup (tables blocks₀ counters₀ marks₀ words₀ memory₀) start (requestsOf requests) values₀ (runStage p (tables blocks counters marks words memory) values)
 
 loop-holds : tie.Need-loop-holds Inv-loop μ-loop
 loop-holds c =
@@ -44,7 +44,7 @@ request-at-requires c κs =
     let a = c .before .before .before .before .before .before .before .before .before .before .before .before .before .before .before .before .before .before .args in
     let k = c .before .before .before .before .before .before .before .before .before .before .account-of in
     let l = c .before .loop in
-    omega (arith, within (a .setup) (tables (now (a .blocks)) (now (a .counters)) (now (a .marks)) (now (a .words)) (now (a .memory))) (k .result) (now (a .requests)) (now (a .values)) (stage (l .p) (l .blocks) (l .counters) (l .marks) (l .words) (l .memory) (l .values)) (l .inv .0) (c .loop-test .taken))
+    omega (arith, within (a .setup) (tables (now (a .blocks)) (now (a .counters)) (now (a .marks)) (now (a .words)) (now (a .memory))) (k .result) (now (a .requests)) (now (a .values)) (runStage (l .p) (tables (l .blocks) (l .counters) (l .marks) (l .words) (l .memory)) (l .values)) (l .inv .0) (c .loop-test .taken))
 
 turn-requires : tie.Need-turn-requires Inv-loop μ-loop
 turn-requires c κs =
@@ -55,28 +55,28 @@ loop-less c =
     let a = c .before .before .before .before .before .before .before .before .before .before .before .before .before .before .before .before .before .before .before .before .before .before .before .before .before .before .before .before .before .before .before .before .before .before .before .before .before .before .args in
     let k = c .before .before .before .before .before .before .before .before .before .before .before .before .before .before .before .before .before .before .before .before .before .before .before .before .before .before .before .before .before .before .account-of in
     let l = c .before .before .before .before .before .before .before .before .before .before .before .before .before .before .before .before .before .before .before .before .before .loop in
-    falls (a .setup) (tables (now (a .blocks)) (now (a .counters)) (now (a .marks)) (now (a .words)) (now (a .memory))) (k .result) (now (a .requests)) (now (a .values)) (stage (l .p) (l .blocks) (l .counters) (l .marks) (l .words) (l .memory) (l .values)) (l .inv .0) (c .before .before .before .before .before .before .before .before .before .before .before .before .before .before .before .before .before .before .before .before .loop-test .taken) (c .before .before .before .before .before .before .before .before .before .before .before .before .before .before .before .before .before .before .before .request-at .result) (c .before .before .before .before .before .before .before .before .before .before .before .before .before .before .before .before .before .before .before .request-at .ensures) _ (c .before .before .before .before .before .before .before .before .before .before .before .before .turn .ensures)
+    falls (a .setup) (tables (now (a .blocks)) (now (a .counters)) (now (a .marks)) (now (a .words)) (now (a .memory))) (k .result) (now (a .requests)) (now (a .values)) (runStage (l .p) (tables (l .blocks) (l .counters) (l .marks) (l .words) (l .memory)) (l .values)) (l .inv .0) (c .before .before .before .before .before .before .before .before .before .before .before .before .before .before .before .before .before .before .before .before .loop-test .taken) (c .before .before .before .before .before .before .before .before .before .before .before .before .before .before .before .before .before .before .before .request-at .result) (c .before .before .before .before .before .before .before .before .before .before .before .before .before .before .before .before .before .before .before .request-at .ensures) _ (c .before .before .before .before .before .before .before .before .before .before .before .before .turn .ensures)
 
 loop-again : tie.Need-loop-again Inv-loop μ-loop
 loop-again c =
     let a = c .before .before .before .before .before .before .before .before .before .before .before .before .before .before .before .before .before .before .before .before .before .before .before .before .before .before .before .before .before .before .before .before .before .before .before .before .before .before .args in
     let k = c .before .before .before .before .before .before .before .before .before .before .before .before .before .before .before .before .before .before .before .before .before .before .before .before .before .before .before .before .before .before .account-of in
     let l = c .before .before .before .before .before .before .before .before .before .before .before .before .before .before .before .before .before .before .before .before .before .loop in
-    (turns (a .setup) (tables (now (a .blocks)) (now (a .counters)) (now (a .marks)) (now (a .words)) (now (a .memory))) (k .result) (now (a .requests)) (now (a .values)) (stage (l .p) (l .blocks) (l .counters) (l .marks) (l .words) (l .memory) (l .values)) (l .inv .0) (c .before .before .before .before .before .before .before .before .before .before .before .before .before .before .before .before .before .before .before .before .loop-test .taken) (c .before .before .before .before .before .before .before .before .before .before .before .before .before .before .before .before .before .before .before .request-at .result) (c .before .before .before .before .before .before .before .before .before .before .before .before .before .before .before .before .before .before .before .request-at .ensures) _ (c .before .before .before .before .before .before .before .before .before .before .before .before .turn .ensures), search needs, search needs, search needs, search needs, search needs, search needs)
+    (turns (a .setup) (tables (now (a .blocks)) (now (a .counters)) (now (a .marks)) (now (a .words)) (now (a .memory))) (k .result) (now (a .requests)) (now (a .values)) (runStage (l .p) (tables (l .blocks) (l .counters) (l .marks) (l .words) (l .memory)) (l .values)) (l .inv .0) (c .before .before .before .before .before .before .before .before .before .before .before .before .before .before .before .before .before .before .before .before .loop-test .taken) (c .before .before .before .before .before .before .before .before .before .before .before .before .before .before .before .before .before .before .before .request-at .result) (c .before .before .before .before .before .before .before .before .before .before .before .before .before .before .before .before .before .before .before .request-at .ensures) _ (c .before .before .before .before .before .before .before .before .before .before .before .before .turn .ensures), search needs, search needs, search needs, search needs, search needs, search needs)
 
 growth-requires : tie.Need-growth-requires Inv-loop μ-loop
 growth-requires c κs =
     let a = c .before .before .before .before .before .before .before .before .before .before .before .before .before .before .before .before .before .before .before .args in
     let k = c .before .before .before .before .before .before .before .before .before .before .before .account-of in
     let l = c .before .before .loop in
-    inv-count (a .setup) (tables (now (a .blocks)) (now (a .counters)) (now (a .marks)) (now (a .words)) (now (a .memory))) (k .result) (requestsOf (now (a .requests))) (now (a .values)) (stage (l .p) (l .blocks) (l .counters) (l .marks) (l .words) (l .memory) (l .values)) (l .inv .0)
+    inv-count (a .setup) (tables (now (a .blocks)) (now (a .counters)) (now (a .marks)) (now (a .words)) (now (a .memory))) (k .result) (requestsOf (now (a .requests))) (now (a .values)) (runStage (l .p) (tables (l .blocks) (l .counters) (l .marks) (l .words) (l .memory)) (l .values)) (l .inv .0)
 
-counted-requires : tie.Need-counted-requires Inv-loop μ-loop
-counted-requires c κs =
+grow-requires : tie.Need-grow-requires Inv-loop μ-loop
+grow-requires c κs =
     let a = c .before .before .before .before .before .before .before .before .before .before .before .before .before .before .before .before .before .before .before .before .args in
     let k = c .before .before .before .before .before .before .before .before .before .before .before .before .account-of in
     let l = c .before .before .before .loop in
-    rw (c .growth .ensures) (inv-room (a .setup) (tables (now (a .blocks)) (now (a .counters)) (now (a .marks)) (now (a .words)) (now (a .memory))) (k .result) (requestsOf (now (a .requests))) (now (a .values)) (stage (l .p) (l .blocks) (l .counters) (l .marks) (l .words) (l .memory) (l .values)) (l .inv .0))
+    rw (c .growth .ensures) (inv-room (a .setup) (tables (now (a .blocks)) (now (a .counters)) (now (a .marks)) (now (a .words)) (now (a .memory))) (k .result) (requestsOf (now (a .requests))) (now (a .values)) (runStage (l .p) (tables (l .blocks) (l .counters) (l .marks) (l .words) (l .memory)) (l .values)) (l .inv .0))
 
 returns : tie.Need-returns Inv-loop μ-loop
 returns c =
@@ -84,10 +84,10 @@ returns c =
     let k = c .before .before .before .before .before .before .before .before .before .before .before .before .before .account-of in
     let l = c .before .before .before .before .loop in
     let T = tables (now (a .blocks)) (now (a .counters)) (now (a .marks)) (now (a .words)) (now (a .memory)) in
-    let x = stage (l .p) (l .blocks) (l .counters) (l .marks) (l .words) (l .memory) (l .values) in
-    ap (λ (g : Account). outcome (l .p .answer) (x .tables) g (l .values)) (c .counted .ensures ∙ ap (grown (k .result)) (c .before .growth .ensures))
+    let x = runStage (l .p) (tables (l .blocks) (l .counters) (l .marks) (l .words) (l .memory)) (l .values) in
+    ap (λ (g : Account). outcome (l .p .answer) (x .tables) g (l .values)) (c .grow .ensures ∙ ap (grown (k .result)) (c .before .growth .ensures))
     ∙ inv-end (a .setup) T (k .result) (requestsOf (now (a .requests))) (now (a .values)) x (l .inv .0) (c .before .before .before .loop-test .left)
-    ∙ ap (λ (g : Account). ran (a .setup) T g (requestsOf (now (a .requests))) (now (a .values))) (k .ensures .0)
+    ∙ ap (λ (g : Account). ran (engine (a .setup)) T g (requestsOf (now (a .requests))) (now (a .values))) (k .ensures .0)
 
 pub run-spec : {M : Type 1} → statement M
 run-spec =
@@ -104,7 +104,7 @@ run-spec =
     loop-less
     loop-again
     growth-requires
-    counted-requires
+    grow-requires
     (λ c. search needs)
     (λ c. search needs)
     (λ c. search needs)

@@ -64,7 +64,8 @@ use Rattle.protocol.proofs.PriceAnswer.Laws as PriceAnswer-l
 use Rattle.protocol.specs.Rival.{rival}
 use Rattle.protocol.specs.Pricer.{price as priced, priceTables}
 use Rattle.rival_pricing.specs.Stages.{PriceStage, priceBegun, took, completed}
-use Rattle.rival_pricer.proofs.Loop.{no-entry, no-request, Inv, μ, inv-start, inv-took, falls-took, inv-completed, falls-completed, at-entry, at-request, due, inv-end}
+use Rattle.protocol.proofs.Requests.{no-request}
+use Rattle.rival_pricer.proofs.Loop.{no-entry, Inv, μ, inv-start, inv-took, falls-took, inv-completed, falls-completed, at-entry, at-request, due, inv-end}
 use Rattle.walks.proofs.Frame.{dieAll, blocks as blocks-of, slots, alloc-all, leave-all, rest-of, then-of, else-of}
 use Rattle.walks.proofs.Opening.{at-list, slice-at, Cells, Opened, slice-opens, slice-closes}
 use Rattle.rival_pricer.proofs.price.Proof.Begin as Begin
