@@ -1,17 +1,30 @@
 -- The records of the specification from a host's plain numbers.
 use Prim.Native.Nat.{ℕ}
 use mathlib.Core.Path.{_≡_}
+use denote.Ref.{RefT, now}
+use denote.Triple.Both.{Both}
 use Rattle.protocol.specs.Tables.{Tables}
 use Rattle.protocol.specs.Pricer.{numberOf, placeOf, costOf}
 use Rattle.protocol.specs.declared.PriceAnswer.{PriceAnswer}
 use Rattle.protocol.specs.declared.Setup.{Setup}
 use Rattle.protocol.specs.declared.Block.{Block}
 use Rattle.protocol.specs.declared.Account.{Account}
+use Rattle.host_numbers.specs.Numbers.{accountOf}
 use Rattle.trace_lines.specs.Trace.{Ended}
 
 -- n processors, l lines in each cache, p words in a block, m blocks
 abbrev pub setupOf : ℕ → ℕ → ℕ → ℕ → Setup
 setupOf n l p m = record { processors = n; lines = l; words = p; blocks = m }
+
+-- the account of four lent numbers, as they came in and as they are left
+abbrev pub LentNumber : Type 0
+LentNumber = Both (RefT ℕ) (RefT ℕ)
+
+abbrev pub accountBefore : LentNumber → LentNumber → LentNumber → LentNumber → Account
+accountBefore n f w u = accountOf (now (n .entry)) (now (f .entry)) (now (w .entry)) (now (u .entry))
+
+abbrev pub accountAfter : LentNumber → LentNumber → LentNumber → LentNumber → Account
+accountAfter n f w u = accountOf (now (n .exit)) (now (f .exit)) (now (w .exit)) (now (u .exit))
 
 -- the block of this number: protocol's blockOf is that of a variable
 abbrev pub blockNumbered : ℕ → Block

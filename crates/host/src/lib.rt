@@ -4,16 +4,16 @@ use protocol::Block;
 use protocol::PriceAnswer;
 use protocol::Setup;
 ghost use mathlib.Core.Path.{_≡_};
-ghost use Rattle.protocol.specs.Tables.{tables};
-ghost use Rattle.protocol.specs.Rival.{rival};
-ghost use Rattle.protocol.specs.Runs.{answered, startRefusal, started, run as ran};
+ghost use Rattle.protocol.specs.Lent.{before, after};
+ghost use Rattle.protocol.specs.Engines.{answered, run as ran};
+ghost use Rattle.protocol.specs.Runs.{startRefusal, started, engine};
 ghost use Rattle.protocol.specs.Pricer.{price as priced, priceTables, numberOf, placeOf, costOf};
-ghost use Rattle.run.specs.Outcomes.{outcome};
+ghost use Rattle.rival_copies.specs.Copies.{rivalBefore, rivalAfter};
+ghost use Rattle.run_progress.specs.Progress.{outcome};
 ghost use Rattle.trace_lines.specs.Trace.{endedOn};
 ghost use Rattle.host_decoding.specs.Records.{requestsOf, entriesOf};
-ghost use Rattle.host_numbers.specs.Numbers.{accountOf};
 ghost use Rattle.host_looks.specs.Looks.{lookLength, lookOffset};
-ghost use Rattle.host.specs.Host.{setupOf, blockNumbered, reportOf, Told};
+ghost use Rattle.host.specs.Host.{setupOf, accountBefore, accountAfter, blockNumbered, reportOf, Told};
 
 // A setup by its four numbers.
 fn setup_of(processors: u32, lines: u32, block_words: u32, block_count: u32) -> Setup
@@ -40,8 +40,8 @@ pub extern "C" fn cuzkelor_start(
     words: &mut [u32],
     memory: &mut [u32],
 ) -> u32
-    ensures { λ r. ⌜ (r ≡ startRefusal (setupOf processors lines «block_words» «block_count») (tables (now (blocks .entry)) (now (counters .entry)) (now (marks .entry)) (now (words .entry)) (now (memory .entry))))
-        × (tables (now (blocks .exit)) (now (counters .exit)) (now (marks .exit)) (now (words .exit)) (now (memory .exit)) ≡ started (setupOf processors lines «block_words» «block_count») (tables (now (blocks .entry)) (now (counters .entry)) (now (marks .entry)) (now (words .entry)) (now (memory .entry)))) ⌝ }
+    ensures { λ r. ⌜ r ≡ startRefusal (setupOf processors lines «block_words» «block_count») (before blocks counters marks words memory) ⌝ }
+    ensures { λ _. ⌜ after blocks counters marks words memory ≡ started (setupOf processors lines «block_words» «block_count») (before blocks counters marks words memory) ⌝ }
 {
     let setup = setup_of(processors, lines, block_words, block_count);
     engine_tables::start(setup, blocks, counters, marks, words, memory)
@@ -60,7 +60,8 @@ pub extern "C" fn cuzkelor_look_length(
     processor: u32,
     block: u32,
 ) -> usize
-    ensures { λ r. ⌜ r ≡ lookLength (setupOf processors lines «block_words» «block_count») (now (blocks .entry)) (now (counters .entry)) (now (words .entry)) processor (blockNumbered block) ⌝ }
+    ensures { λ r. ⌜ r ≡ lookLength (setupOf processors lines «block_words» «block_count»)
+        (now (blocks .entry)) (now (counters .entry)) (now (words .entry)) processor (blockNumbered block) ⌝ }
 {
     let setup = setup_of(processors, lines, block_words, block_count);
     host_looks::look_length(setup, processor, Block(block), blocks, counters, words)
@@ -79,7 +80,8 @@ pub extern "C" fn cuzkelor_look_offset(
     processor: u32,
     block: u32,
 ) -> usize
-    ensures { λ r. ⌜ r ≡ lookOffset (setupOf processors lines «block_words» «block_count») (now (blocks .entry)) (now (counters .entry)) (now (words .entry)) processor (blockNumbered block) ⌝ }
+    ensures { λ r. ⌜ r ≡ lookOffset (setupOf processors lines «block_words» «block_count»)
+        (now (blocks .entry)) (now (counters .entry)) (now (words .entry)) processor (blockNumbered block) ⌝ }
 {
     let setup = setup_of(processors, lines, block_words, block_count);
     host_looks::look_offset(setup, processor, Block(block), blocks, counters, words)
@@ -106,10 +108,11 @@ pub extern "C" fn cuzkelor_run(
     taken: &mut usize,
     place: &mut usize,
 ) -> u32
-    ensures { λ r. ⌜ outcome (answered (now (taken .exit)) r (now (place .exit))) (tables (now (blocks .exit)) (now (counters .exit)) (now (marks .exit)) (now (words .exit)) (now (memory .exit)))
-        (accountOf (now («account_requests» .exit)) (now («account_fetch» .exit)) (now («account_write_back» .exit)) (now («account_update» .exit))) (now (values .exit))
-        ≡ ran (setupOf processors lines «block_words» «block_count») (tables (now (blocks .entry)) (now (counters .entry)) (now (marks .entry)) (now (words .entry)) (now (memory .entry)))
-        (accountOf (now («account_requests» .entry)) (now («account_fetch» .entry)) (now («account_write_back» .entry)) (now («account_update» .entry))) (requestsOf (now (requests .entry))) (now (values .entry)) ⌝ }
+    ensures { λ r. ⌜ outcome (answered (now (taken .exit)) r (now (place .exit)))
+        (after blocks counters marks words memory) (accountAfter «account_requests» «account_fetch» «account_write_back» «account_update») (now (values .exit))
+        ≡ ran (engine (setupOf processors lines «block_words» «block_count»))
+        (before blocks counters marks words memory) (accountBefore «account_requests» «account_fetch» «account_write_back» «account_update»)
+        (requestsOf (now (requests .entry))) (now (values .entry)) ⌝ }
 {
     let setup = setup_of(processors, lines, block_words, block_count);
     let account = Account {
@@ -183,8 +186,10 @@ pub extern "C" fn cuzkelor_price(
     place: &mut usize,
     cost: &mut u32,
 ) -> u32
-    ensures { λ r. ⌜ Told (priced (setupOf processors lines «block_words» «block_count») (rival (now (blocks .entry)) (now (held .entry)) (now (marks .entry))) (requestsOf (now (requests .entry))) (entriesOf (now (entries .entry)))) r (now (place .exit)) (now (cost .exit))
-        × (rival (now (blocks .exit)) (now (held .exit)) (now (marks .exit)) ≡ priceTables (setupOf processors lines «block_words» «block_count») (rival (now (blocks .entry)) (now (held .entry)) (now (marks .entry))) (requestsOf (now (requests .entry))) (entriesOf (now (entries .entry)))) ⌝ }
+    ensures { λ r. ⌜ Told (priced (setupOf processors lines «block_words» «block_count») (rivalBefore blocks held marks)
+        (requestsOf (now (requests .entry))) (entriesOf (now (entries .entry)))) r (now (place .exit)) (now (cost .exit)) ⌝ }
+    ensures { λ _. ⌜ rivalAfter blocks held marks ≡ priceTables (setupOf processors lines «block_words» «block_count») (rivalBefore blocks held marks)
+        (requestsOf (now (requests .entry))) (entriesOf (now (entries .entry))) ⌝ }
 {
     let setup = setup_of(processors, lines, block_words, block_count);
     let answer = host_numbers::price(setup, blocks, held, marks, entries, requests);
@@ -208,9 +213,8 @@ pub extern "C" fn cuzkelor_count_trace(
     account_update: &mut u32,
     line: &mut u32,
 ) -> u32
-    ensures { λ r. ⌜ reportOf (accountOf (now («account_requests» .exit)) (now («account_fetch» .exit)) (now («account_write_back» .exit)) (now («account_update» .exit))) r (now (line .exit))
-        (tables (now (blocks .exit)) (now (counters .exit)) (now (marks .exit)) (now (words .exit)) (now (memory .exit)))
-        ≡ endedOn (tables (now (blocks .entry)) (now (counters .entry)) (now (marks .entry)) (now (words .entry)) (now (memory .entry))) (now (bytes .entry)) ⌝ }
+    ensures { λ r. ⌜ reportOf (accountAfter «account_requests» «account_fetch» «account_write_back» «account_update») r (now (line .exit)) (after blocks counters marks words memory)
+        ≡ endedOn (before blocks counters marks words memory) (now (bytes .entry)) ⌝ }
 {
     let report = trace::count_trace(bytes, blocks, counters, marks, words, memory);
     *account_requests = report.account.requests;

@@ -1,3 +1,4 @@
+-- By the cases of the answer.
 use borrow.Author.Needs.{needs}
 use Rattle.host.proofs.cost_of.Statement.{statement}
 use Rattle.host.proofs.cost_of.Tie as tie

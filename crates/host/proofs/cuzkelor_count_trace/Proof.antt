@@ -1,3 +1,4 @@
+-- The trace counted; its report is stored number by number.
 use borrow.Author.Needs.{needs}
 use Rattle.host.proofs.cuzkelor_count_trace.Statement.{statement}
 use Rattle.host.proofs.cuzkelor_count_trace.Tie as tie

@@ -1,3 +1,4 @@
+-- The price over numbers, at the setup of the four numbers (setup_of); its answer is told number by number.
 use mathlib.Core.Path.{ap, _∙_}
 use Rattle.protocol.specs.Pricer.{numberOf, placeOf, costOf}
 use borrow.Author.Needs.{needs}

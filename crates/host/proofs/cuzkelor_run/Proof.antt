@@ -1,7 +1,9 @@
+-- The run over numbers, at the setup of the four numbers (setup_of).
 use mathlib.Core.Path.{ap, _∙_}
 use denote.Ref.{now}
 use Rattle.protocol.specs.Tables.{tables}
-use Rattle.protocol.specs.Runs.{run as ran}
+use Rattle.protocol.specs.Engines.{run as ran}
+use Rattle.protocol.specs.Runs.{engine}
 use Rattle.protocol.specs.declared.Setup.{Setup}
 use Rattle.host_decoding.specs.Records.{requestsOf}
 use Rattle.host_numbers.specs.Numbers.{accountOf}
@@ -14,7 +16,7 @@ returns c =
     let a = c .before .before .before .before .before .before .before .before .before .before .before .before .before .before .before .before .before .before .before .before .before .before .before .before .before .before .before .before .before .before .before .args in
     let T = tables (now (a .blocks)) (now (a .counters)) (now (a .marks)) (now (a .words)) (now (a .memory)) in
     let before = accountOf (now (a .account-requests)) (now (a .account-fetch)) (now (a .account-write-back)) (now (a .account-update)) in
-    c .before .before .before .before .before .before .before .before .before .before .before .before .run .ensures ∙ ap (λ (s : Setup). ran s T before (requestsOf (now (a .requests))) (now (a .values))) (c .before .before .before .before .before .before .before .before .before .before .before .before .before .before .before .before .before .before .before .before .before .before .before .setup-of .ensures)
+    c .before .before .before .before .before .before .before .before .before .before .before .before .run .ensures ∙ ap (λ (s : Setup). ran (engine s) T before (requestsOf (now (a .requests))) (now (a .values))) (c .before .before .before .before .before .before .before .before .before .before .before .before .before .before .before .before .before .before .before .before .before .before .before .setup-of .ensures)
 
 pub cuzkelor-run-spec : {M : Type 1} → statement M
 cuzkelor-run-spec =

@@ -1,3 +1,4 @@
+-- The loop keeps what run_steps' laws keep, over requests that are decoded as they are reached (Runs); at the end the account is grown.
 use borrow.Author.Needs.{needs}
 use mathlib.Core.Path.{_≡_, refl, ap, _∙_}
 use denote.Ref.{now}
@@ -34,16 +35,22 @@ abbrev μ-loop : tie.MeasureT-loop
 
 loop-holds : tie.Need-loop-holds Inv-loop μ-loop
 loop-holds c =
-    let a = c .before .before .before .before .before .before .before .before .before .before .before .before .before .before .before .before .args in
-    let k = c .before .before .before .before .before .before .before .before .account-of in
-    let n = c .before .before .before .before .before .before .before .request-count in
+    let request-count′ = c .before .before .before .before .before .before .before in
+    let n = request-count′ .request-count in
+    let account-of′ = request-count′ .before in
+    let k = account-of′ .account-of in
+    let start = account-of′ .before .before .before .before .before .before .before .before in
+    let a = start .args in
     (rw (c .begin .ensures) (begins (a .setup) (tables (now (a .blocks)) (now (a .counters)) (now (a .marks)) (now (a .words)) (now (a .memory))) (k .result) (now (a .requests)) (now (a .values)) (k .ensures .1) (n .result) (n .ensures)), refl, refl, refl, refl, refl, refl)
 
 request-at-requires : tie.Need-request-at-requires Inv-loop μ-loop
 request-at-requires c κs =
-    let a = c .before .before .before .before .before .before .before .before .before .before .before .before .before .before .before .before .before .before .args in
-    let k = c .before .before .before .before .before .before .before .before .before .before .account-of in
-    let l = c .before .loop in
+    let loop′ = c .before in
+    let l = loop′ .loop in
+    let account-of′ = loop′ .before .before .before .before .before .before .before .before .before in
+    let k = account-of′ .account-of in
+    let start = account-of′ .before .before .before .before .before .before .before .before in
+    let a = start .args in
     omega (arith, within (a .setup) (tables (now (a .blocks)) (now (a .counters)) (now (a .marks)) (now (a .words)) (now (a .memory))) (k .result) (now (a .requests)) (now (a .values)) (runStage (l .p) (tables (l .blocks) (l .counters) (l .marks) (l .words) (l .memory)) (l .values)) (l .inv .0) (c .loop-test .taken))
 
 turn-requires : tie.Need-turn-requires Inv-loop μ-loop
@@ -52,9 +59,12 @@ turn-requires c κs =
 
 loop-less : tie.Need-loop-less Inv-loop μ-loop
 loop-less c =
-    let a = c .before .before .before .before .before .before .before .before .before .before .before .before .before .before .before .before .before .before .before .before .before .before .before .before .before .before .before .before .before .before .before .before .before .before .before .before .before .before .args in
-    let k = c .before .before .before .before .before .before .before .before .before .before .before .before .before .before .before .before .before .before .before .before .before .before .before .before .before .before .before .before .before .before .account-of in
-    let l = c .before .before .before .before .before .before .before .before .before .before .before .before .before .before .before .before .before .before .before .before .before .loop in
+    let loop′ = c .before .before .before .before .before .before .before .before .before .before .before .before .before .before .before .before .before .before .before .before .before in
+    let l = loop′ .loop in
+    let account-of′ = loop′ .before .before .before .before .before .before .before .before .before in
+    let k = account-of′ .account-of in
+    let start = account-of′ .before .before .before .before .before .before .before .before in
+    let a = start .args in
     falls (a .setup) (tables (now (a .blocks)) (now (a .counters)) (now (a .marks)) (now (a .words)) (now (a .memory))) (k .result) (now (a .requests)) (now (a .values)) (runStage (l .p) (tables (l .blocks) (l .counters) (l .marks) (l .words) (l .memory)) (l .values)) (l .inv .0) (c .before .before .before .before .before .before .before .before .before .before .before .before .before .before .before .before .before .before .before .before .loop-test .taken) (c .before .before .before .before .before .before .before .before .before .before .before .before .before .before .before .before .before .before .before .request-at .result) (c .before .before .before .before .before .before .before .before .before .before .before .before .before .before .before .before .before .before .before .request-at .ensures) _ (c .before .before .before .before .before .before .before .before .before .before .before .before .turn .ensures)
 
 loop-again : tie.Need-loop-again Inv-loop μ-loop
@@ -66,23 +76,32 @@ loop-again c =
 
 growth-requires : tie.Need-growth-requires Inv-loop μ-loop
 growth-requires c κs =
-    let a = c .before .before .before .before .before .before .before .before .before .before .before .before .before .before .before .before .before .before .before .args in
-    let k = c .before .before .before .before .before .before .before .before .before .before .before .account-of in
-    let l = c .before .before .loop in
+    let loop′ = c .before .before in
+    let l = loop′ .loop in
+    let account-of′ = loop′ .before .before .before .before .before .before .before .before .before in
+    let k = account-of′ .account-of in
+    let start = account-of′ .before .before .before .before .before .before .before .before in
+    let a = start .args in
     inv-count (a .setup) (tables (now (a .blocks)) (now (a .counters)) (now (a .marks)) (now (a .words)) (now (a .memory))) (k .result) (requestsOf (now (a .requests))) (now (a .values)) (runStage (l .p) (tables (l .blocks) (l .counters) (l .marks) (l .words) (l .memory)) (l .values)) (l .inv .0)
 
 grow-requires : tie.Need-grow-requires Inv-loop μ-loop
 grow-requires c κs =
-    let a = c .before .before .before .before .before .before .before .before .before .before .before .before .before .before .before .before .before .before .before .before .args in
-    let k = c .before .before .before .before .before .before .before .before .before .before .before .before .account-of in
-    let l = c .before .before .before .loop in
+    let loop′ = c .before .before .before in
+    let l = loop′ .loop in
+    let account-of′ = loop′ .before .before .before .before .before .before .before .before .before in
+    let k = account-of′ .account-of in
+    let start = account-of′ .before .before .before .before .before .before .before .before in
+    let a = start .args in
     rw (c .growth .ensures) (inv-room (a .setup) (tables (now (a .blocks)) (now (a .counters)) (now (a .marks)) (now (a .words)) (now (a .memory))) (k .result) (requestsOf (now (a .requests))) (now (a .values)) (runStage (l .p) (tables (l .blocks) (l .counters) (l .marks) (l .words) (l .memory)) (l .values)) (l .inv .0))
 
 returns : tie.Need-returns Inv-loop μ-loop
 returns c =
-    let a = c .before .before .before .before .before .before .before .before .before .before .before .before .before .before .before .before .before .before .before .before .before .args in
-    let k = c .before .before .before .before .before .before .before .before .before .before .before .before .before .account-of in
-    let l = c .before .before .before .before .loop in
+    let loop′ = c .before .before .before .before in
+    let l = loop′ .loop in
+    let account-of′ = loop′ .before .before .before .before .before .before .before .before .before in
+    let k = account-of′ .account-of in
+    let start = account-of′ .before .before .before .before .before .before .before .before in
+    let a = start .args in
     let T = tables (now (a .blocks)) (now (a .counters)) (now (a .marks)) (now (a .words)) (now (a .memory)) in
     let x = runStage (l .p) (tables (l .blocks) (l .counters) (l .marks) (l .words) (l .memory)) (l .values) in
     ap (λ (g : Account). outcome (l .p .answer) (x .tables) g (l .values)) (c .grow .ensures ∙ ap (grown (k .result)) (c .before .growth .ensures))

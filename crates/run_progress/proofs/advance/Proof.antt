@@ -1,3 +1,4 @@
+-- Field by field; the bills are added.
 use mathlib.Core.Path.{ap}
 use lib.Dec.{ltb}
 use Rattle.protocol.specs.Refusals.{noRefusal}

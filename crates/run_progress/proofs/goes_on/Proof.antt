@@ -1,3 +1,4 @@
+-- By the number.
 use borrow.Author.Tests.{eq-eqb, ne-eqb}
 use Rattle.run_progress.proofs.goes_on.Statement.{statement}
 use Rattle.run_progress.proofs.goes_on.Tie as tie

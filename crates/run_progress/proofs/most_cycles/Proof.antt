@@ -1,3 +1,4 @@
+-- The product is below 2^64, since the price is small.
 use native.Mathlib.Nat.{mul-le-mul-right}
 use native.Mathlib.Omega.{arith}
 use borrow.Author.Needs.{needs}

@@ -1,3 +1,4 @@
+-- Field by field.
 use mathlib.Core.Path.{refl}
 use Rattle.run_progress.proofs.stop.Statement.{statement}
 use Rattle.run_progress.proofs.stop.Tie as tie

@@ -1,3 +1,4 @@
+-- By the definition.
 use mathlib.Core.Path.{refl}
 use Rattle.protocol.specs.Board.{fetchPrice}
 use Rattle.protocol.proofs.Setup.fetch_price.Statement.{statement}

@@ -1,3 +1,4 @@
+-- By the definition; the product is small, since the setup fits.
 use mathlib.Core.Path.{refl}
 use native.Mathlib.Omega.{arith}
 use Rattle.protocol.specs.Board.{slots}

@@ -1,3 +1,4 @@
+-- By the definition.
 use mathlib.Core.Path.{refl}
 use Rattle.protocol.specs.Board.{writeBackPrice}
 use Rattle.protocol.proofs.Setup.write_back_price.Statement.{statement}
