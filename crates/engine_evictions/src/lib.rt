@@ -8,9 +8,8 @@ ghost use Prim.Native.Nat.{ℕ, _<_};
 ghost use Rattle.protocol.specs.Lists.{at};
 ghost use Rattle.protocol.specs.Board.{slots};
 ghost use Rattle.protocol.specs.Tables.{Sized};
-ghost use Rattle.protocol.specs.Lent.{lent, before, after};
+ghost use Rattle.protocol.specs.Lent.{lent, before, after, unlent, PerSlot, PerSlotWord, PerVariable};
 ghost use Rattle.protocol.specs.Rules.{emptied, writtenBack, saved, saveCycles, evicted};
-ghost use Rattle.parts.specs.Unlent.{unlent, PerSlot, PerSlotWord, PerVariable};
 
 // Slot k becomes empty.
 pub fn empty_line(

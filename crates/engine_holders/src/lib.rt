@@ -8,9 +8,8 @@ ghost use Prim.Native.Nat.{ℕ, _<_};
 ghost use lib.ListN.{length};
 ghost use Rattle.protocol.specs.Board.{Fits};
 ghost use Rattle.protocol.specs.Tables.{holdsAt, holds, sharing};
-ghost use Rattle.protocol.specs.Lent.{before};
+ghost use Rattle.protocol.specs.Lent.{before, unlent, PerSlot, PerSlotWord};
 ghost use Rattle.protocol.specs.Rules.{payer, owner, updatedCopies};
-ghost use Rattle.parts.specs.Unlent.{unlent, PerSlot, PerSlotWord};
 ghost use Rattle.engine_holders.specs.Searches.{otherHolds, otherHolder, owns, updatedCopy};
 
 // Whether slot k holds a block.

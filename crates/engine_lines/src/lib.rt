@@ -11,9 +11,8 @@ ghost use Prim.Native.Nat.{ℕ, _≤_, _<_};
 ghost use Rattle.protocol.specs.Lists.{at};
 ghost use Rattle.protocol.specs.Board.{Fits, slots};
 ghost use Rattle.protocol.specs.Tables.{Sized};
-ghost use Rattle.protocol.specs.Lent.{lent, before, after};
+ghost use Rattle.protocol.specs.Lent.{lent, before, after, unlent, PerSlot, PerSlotWord};
 ghost use Rattle.protocol.specs.Rules.{released, filled, fetched, charged};
-ghost use Rattle.parts.specs.Unlent.{unlent, PerSlot, PerSlotWord};
 
 // Main memory takes the words of the cache that has a block marked, whose mark clears.
 fn release(

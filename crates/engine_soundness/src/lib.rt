@@ -7,9 +7,8 @@ ghost use Prim.Native.Nat.{ℕ, _<_};
 ghost use Rattle.protocol.specs.Lists.{at};
 ghost use Rattle.protocol.specs.Board.{Fits, slots, lineSlot};
 ghost use Rattle.protocol.specs.Tables.{Sized};
-ghost use Rattle.protocol.specs.Lent.{lent, before};
+ghost use Rattle.protocol.specs.Lent.{lent, before, unlent, PerSlot, PerSlotWord};
 ghost use Rattle.protocol.specs.Soundness.{emptyLine, copyLine, soundLine, sound};
-ghost use Rattle.parts.specs.Unlent.{unlent, PerSlot, PerSlotWord};
 
 // Whether the empty line at slot k is all 0.
 fn empty_line_sound(setup: Setup, k: usize, blocks: &[u32], marks: &[u32], words: &[u32]) -> bool

@@ -11,9 +11,8 @@ ghost use Prim.Native.Nat.{ℕ, _≤_, _<_};
 ghost use Rattle.protocol.specs.Lists.{at};
 ghost use Rattle.protocol.specs.Board.{Fits, slots};
 ghost use Rattle.protocol.specs.Tables.{Sized};
-ghost use Rattle.protocol.specs.Lent.{lent, before, after};
+ghost use Rattle.protocol.specs.Lent.{lent, before, after, unlent, PerSlot, PerSlotWord, PerVariable};
 ghost use Rattle.protocol.specs.Rules.{writtenAlone, broadcast, charged, written, updateCycles};
-ghost use Rattle.parts.specs.Unlent.{unlent, PerSlot, PerSlotWord, PerVariable};
 
 // The only holder, at slot k, writes: its word changes and it is marked.
 fn write_alone(

@@ -1,9 +1,13 @@
 -- The lent tables as contracts speak of them: five buffers behind their references.
-use Prim.Native.Nat.{ℕ}
+use Prim.Native.Nat.{ℕ, _*_}
+use mathlib.Core.Path.{_≡_}
 use mathlib.Core.List.{List}
+use lib.ListN.{length}
 use denote.Ref.{RefT, now}
 use denote.Triple.Both.{Both}
+use Rattle.protocol.specs.Board.{slots, variables}
 use Rattle.protocol.specs.Tables.{Tables, tables}
+use Rattle.protocol.specs.declared.Setup.{Setup}
 
 -- a lent buffer, at entry and at exit
 abbrev pub Lent : Type 0
@@ -19,3 +23,21 @@ before b c m w g = lent (b .entry) (c .entry) (m .entry) (w .entry) (g .entry)
 
 abbrev pub after : Lent → Lent → Lent → Lent → Lent → Tables
 after b c m w g = lent (b .exit) (c .exit) (m .exit) (w .exit) (g .exit)
+
+-- ---- functions that are lent only some of the tables
+
+-- a table that is not lent: whatever it holds, it stays. Where it lies does not matter
+abbrev pub unlent : List ℕ → Lent
+unlent l =
+    let r : RefT (List ℕ) = record { ptr = (0, 0); name = 0; now = l } in
+    record { entry = r; exit = r }
+
+-- the lengths of `Sized`, of one lent table: a number for each slot, for each word of each slot, and for each variable
+abbrev pub PerSlot : Setup → RefT (List ℕ) → Type 0
+PerSlot s l = length (now l) ≡ slots s
+
+abbrev pub PerSlotWord : Setup → RefT (List ℕ) → Type 0
+PerSlotWord s l = length (now l) ≡ slots s * s .words
+
+abbrev pub PerVariable : Setup → RefT (List ℕ) → Type 0
+PerVariable s l = length (now l) ≡ variables s
