@@ -1,58 +1,73 @@
--- Small facts of a trace as it is fed: a count goes on, the end of the input, and the start.
+-- Small facts of a trace as it is fed: a count goes on (`countable-counted`), the end of the input, and the start (the cases of starting).
 use Prim.Native.Nat.{ℕ}
-use mathlib.Core.Path.{_≡_, refl, ap, _∙_}
+use mathlib.Core.Path.{_≡_, refl, sym, ap, _∙_}
 use mathlib.Core.Bool.{Bool, true, false}
 use mathlib.Core.List.{List}
 use native.Mathlib.Omega.{arith}
 use lib.Dec.{eqb}
 use borrow.Author.Tests.{eq-eqb, ne-eqb}
-use Rattle.protocol.specs.Refusals.{noRefusal}
-use Rattle.protocol.specs.Board.{inRange, slots}
+use Rattle.protocol.specs.Refusals.{noRefusal, wrongLength}
+use Rattle.protocol.specs.Board.{slots}
 use Rattle.protocol.specs.Tables.{Tables, sized, fresh}
 use Rattle.protocol.specs.Accounts.{freshAccount}
 use Rattle.protocol.specs.Runs.{startRefusal, started}
 use Rattle.protocol.proofs.Laws.{choice, at-zeros}
 use Rattle.protocol.proofs.Lengths.{sized-fresh}
-use Rattle.trace_scan.specs.Automaton.{scanParsed}
-use Rattle.trace_din.specs.declared.Parsed.{Parsed}
+use Rattle.protocol.proofs.Accounts.{spent-none}
 use Rattle.engine.specs.Usable.{Usable}
+use Rattle.engine_tables.proofs.Tests.{start-unsized, start-filled}
+use Rattle.trace_din.specs.Lines.{newline}
+use Rattle.trace_din.specs.declared.Parsed.{Parsed}
+use Rattle.trace_scan.specs.Automaton.{scanParsed}
 use Rattle.trace_lines.specs.Trace.{traceSetup, ended, endedOn}
+use Rattle.trace_lines.specs.declared.Meaning.{Meaning}
 use Rattle.trace_lines.specs.declared.Report.{Report}
-use Rattle.trace_count.specs.Counting.{Stage, freshCount, stateOf, judged, reported, Ready}
+use Rattle.trace_lines.proofs.Laws.{trace-passes}
+use Rattle.trace_count.specs.Counting.{CountStage, countStage, freshCount, lengthened, lineCounted, lineEnded, reported, Countable}
 use Rattle.trace_count.specs.declared.Count.{Count}
-use Rattle.trace_count.proofs.Laws.{ready-judged}
-use Rattle.trace.specs.Feeding.{lineNumber, lineEnded, stepped, closed, finished}
+use Rattle.trace_count.proofs.Laws.{countable-counted}
+use Rattle.trace.specs.Feeding.{currentEnded, extended, stepped, closed, reporting, finished}
 
 -- ---- a count goes on
 
-pub ready-ended : (x : Stage) → Ready x → Ready (lineEnded x)
-unfolding lineEnded
-ready-ended x r = ready-judged (stateOf x) (lineNumber x) _ (record { account = r .account; tables = r .tables })
+pub countable-ended : (x : CountStage) → Countable x → Countable (currentEnded x)
+unfolding currentEnded
+countable-ended x r = countable-counted x _ r
 
-pub ready-stepped : (x : Stage) (b : ℕ) → Ready x → Ready (stepped x b)
+pub countable-stepped : (x : CountStage) (b : ℕ) → Countable x → Countable (stepped x b)
 unfolding stepped
-ready-stepped x b r =
-    choice Ready (eqb (x .count .refusal) noRefusal)
-    (λ e. choice Ready (eqb b 10) (λ e. ready-ended x r) (λ e. record { account = r .account; tables = r .tables })) (λ e. r)
+countable-stepped x b r =
+    choice Countable (eqb (x .count .refusal) noRefusal)
+    (λ e. choice Countable (eqb b newline) (λ e. countable-ended x r) (λ e. record { account = r .account; line-number = r .line-number; tables = r .tables })) (λ e. r)
 
--- ---- what each function returns
+-- with more bytes of the current line
+pub countable-lengthened : (x : CountStage) (c : Count) (l : List ℕ) → c ≡ lengthened (x .count) l → Countable x → Countable (countStage c (x .tables))
+countable-lengthened x c l e r = rw e (record { account = r .account; line-number = r .line-number; tables = r .tables })
 
-pub ended-as : (x : Stage) (y : Parsed) → scanParsed (x .count .line .scan) ≡ y → lineEnded x ≡ judged (stateOf x) (lineNumber x) y
-unfolding lineEnded
-ended-as x y e = ap (judged (stateOf x) (lineNumber x)) e
+-- ---- a line ends
 
--- the end of the input: after a refusal, between two lines, and within a line
-pub finished-refused : (x : Stage) (r : Report) → (x .count .refusal ≡ noRefusal → ⊥) → r ≡ reported (x .count) → record { report = r; tables = x .tables } ≡ finished x
+pub ended-as : (x : CountStage) (y : Parsed) → scanParsed (x .count .line .scan) ≡ y → currentEnded x ≡ lineEnded x y
+unfolding currentEnded
+ended-as x y e = ap (lineEnded x) e
+
+-- what it asks for tells all of it
+pub counted-extended : (x : CountStage) (l : List ℕ) (y : Meaning) → lineCounted (extended x l) y ≡ lineCounted x y
+unfolding lineCounted
+counted-extended x l y = refl
+
+-- ---- the end of the input: after a refusal, between two lines, and within a line
+
+pub finished-refused : (x : CountStage) (r : Report) → (x .count .refusal ≡ noRefusal → ⊥) → r ≡ reported (x .count) → reporting r (x .tables) ≡ finished x
 unfolding finished closed
 finished-refused x r d e = simp (e, ne-eqb _ _ d)
 
-pub finished-between : (x : Stage) (r : Report) → x .count .refusal ≡ noRefusal → x .count .line .width ≡ 0 → r ≡ reported (x .count)
-    → record { report = r; tables = x .tables } ≡ finished x
+pub finished-between : (x : CountStage) (r : Report) → x .count .refusal ≡ noRefusal → x .count .line .width ≡ 0 → r ≡ reported (x .count)
+    → reporting r (x .tables) ≡ finished x
 unfolding finished closed
 finished-between x r d z e = simp (e, eq-eqb _ _ d, eq-eqb _ _ z)
 
-pub finished-within : (x : Stage) (r : Report) (y : Stage) → x .count .refusal ≡ noRefusal → (x .count .line .width ≡ 0 → ⊥) → y ≡ lineEnded x → r ≡ reported (y .count)
-    → record { report = r; tables = y .tables } ≡ finished x
+pub finished-within : (x : CountStage) (r : Report) (y : CountStage) → x .count .refusal ≡ noRefusal → (x .count .line .width ≡ 0 → ⊥) → y ≡ currentEnded x
+    → r ≡ reported (y .count) → reporting r (y .tables) ≡ finished x
 unfolding finished closed
 finished-within x r y d z p e = simp (e, eq-eqb _ _ d, ne-eqb _ _ z, p)
 
@@ -62,35 +77,37 @@ pub usable-fresh : Usable traceSetup (fresh traceSetup)
 unfolding fresh traceSetup
 usable-fresh = record { lengths = sized-fresh traceSetup; named = λ k. omega (arith, at-zeros (slots traceSetup) k) }
 
-pub ready-fresh : Ready (record { count = freshCount; tables = fresh traceSetup })
-ready-fresh = record { account = record { requests = omega arith; fetch = omega arith; write-back = omega arith; update = omega arith }; tables = usable-fresh }
+countable-fresh : Countable (countStage freshCount (fresh traceSetup))
+countable-fresh = record { account = spent-none traceSetup; line-number = omega arith; tables = usable-fresh }
 
 -- the first stage of a trace on fresh tables
-pub fresh-stage : (c : Count) (t : Tables) → c ≡ freshCount → t ≡ fresh traceSetup
-    → _≡_ {A = Stage} (record { count = c; tables = t }) (record { count = freshCount; tables = fresh traceSetup })
-fresh-stage c t p q = simp (p, q)
+module _ (c : Count) (t : Tables) (p : c ≡ freshCount) (q : t ≡ fresh traceSetup) where
+  pub first-stage : countStage c t ≡ countStage freshCount (fresh traceSetup)
+  first-stage = simp (p, q)
+
+  pub countable-first : Countable (countStage c t)
+  countable-first = rw first-stage countable-fresh
 
 -- tables that are not started are of the wrong lengths
 pub not-started : (t : Tables) (bs : List ℕ) (r : ℕ) (u : Tables) → r ≡ startRefusal traceSetup t → u ≡ started traceSetup t → (r ≡ noRefusal → ⊥)
-    → record { report = record { account = freshAccount; refusal = r; line = 0 }; tables = u } ≡ endedOn t bs
-unfolding startRefusal started endedOn traceSetup inRange
+    → reporting (record { account = freshAccount; refusal = r; line = 0 }) u ≡ endedOn t bs
+unfolding endedOn
 not-started t bs r u e f d = go (sized traceSetup t) refl
   where
-    go : (c : Bool) → sized traceSetup t ≡ c → record { report = record { account = freshAccount; refusal = r; line = 0 }; tables = u } ≡ endedOn t bs
-    go true z = absurd (d (e ∙ simp z))
-    go false z = simp (e, f, z)
+    go : (c : Bool) → sized traceSetup t ≡ c → reporting (record { account = freshAccount; refusal = r; line = 0 }) u ≡ endedOn t bs
+    go true z = absurd (d (e ∙ sym (start-filled traceSetup t trace-passes z .0)))
+    go false z =
+        let w = start-unsized traceSetup t trace-passes z in
+        simp (e ∙ sym (w .0), f ∙ sym (w .1), z)
 
 -- tables that are started
 pub now-started : (t : Tables) (r : ℕ) (u : Tables) → r ≡ startRefusal traceSetup t → u ≡ started traceSetup t → r ≡ noRefusal
     → (sized traceSetup t ≡ true) × (u ≡ fresh traceSetup)
-unfolding startRefusal started traceSetup inRange
 now-started t r u e f d = go (sized traceSetup t) refl
   where
     go : (c : Bool) → sized traceSetup t ≡ c → (sized traceSetup t ≡ true) × (u ≡ fresh traceSetup)
-    go true z = (z, f ∙ simp z)
-    go false z =
-        let w : startRefusal traceSetup t ≡ 2 = simp z in
-        absurd (omega (arith, d, e, w))
+    go true z = (z, f ∙ sym (start-filled traceSetup t trace-passes z .1))
+    go false z = absurd (omega (arith, start-unsized traceSetup t trace-passes z .0 ∙ sym e ∙ d))
 
 pub ended-started : (t : Tables) (bs : List ℕ) → sized traceSetup t ≡ true → endedOn t bs ≡ ended bs
 unfolding endedOn

@@ -1,24 +1,25 @@
--- Fed with all the bytes of a trace, byte by byte, and finished: what the definition by lines reports.
-use Prim.Native.Nat.{ℕ, suc, _+_}
+-- Fed with all the bytes of a trace, byte by byte, and finished: what the definition by lines reports. The bytes of an unfinished line stand
+-- in front of the lines of what follows; a byte joins them (`read-more`), a newline or the end makes them a line (`read-parsed`).
+use Prim.Native.Nat.{ℕ, _+_}
 use mathlib.Core.Path.{_≡_, refl, sym, ap, _∙_}
 use mathlib.Core.Bool.{Bool, true, false, cond}
 use mathlib.Core.List.{List, [], _∷_, _++_}
 use native.Mathlib.Omega.{arith}
 use lib.Dec.{eqb}
-use borrow.Author.Tests.{eqb-true, ne-eqb}
+use borrow.Author.Tests.{ne-eqb}
 use Rattle.protocol.specs.Refusals.{noRefusal}
-use Rattle.protocol.specs.Tables.{fresh}
-use Rattle.protocol.specs.Runs.{State}
-use Rattle.competitive.specs.Claims.{opening}
+use Rattle.protocol.specs.Tables.{Tables, fresh}
 use Rattle.protocol.specs.Accounts.{freshAccount}
-use Rattle.trace_din.specs.Lines.{ahead, linesOf, parsed}
+use Rattle.protocol.specs.Engines.{State}
+use Rattle.protocol.specs.Runs.{opening}
+use Rattle.trace_din.specs.Lines.{newline, ahead, linesOf, parsed}
 use Rattle.trace_scan.specs.Automaton.{newLine, withBytes}
-use Rattle.trace_din.specs.declared.Parsed.{Parsed}
-use Rattle.trace_din.specs.declared.Parsed.the-variants.{Malformed, Labelled}
 use Rattle.trace_scan.proofs.Reading.{read-parsed, read-more, width-some}
-use Rattle.trace_lines.specs.Trace.{traceSetup, lineRefusal, after, afterLine, stopped, traced, ended}
-use Rattle.trace_count.specs.Counting.{Stage, freshCount, goingOn, refusedBy, judged, reported}
-use Rattle.trace.specs.Feeding.{withinLine, lineEnded, stepped, fed, closed, finished}
+use Rattle.trace_lines.specs.Trace.{traceSetup, interpreted, lineRefusal, afterLine, Ended, endedAt, traced, ended}
+use Rattle.trace_lines.specs.declared.Meaning.{Meaning}
+use Rattle.trace_count.specs.Counting.{CountStage, countStage, stateOf, freshCount, lineRefused, goingOn, lineCounted, reported}
+use Rattle.trace.specs.Feeding.{currentEnded, extended, stepped, fed, closed, reporting, finished}
+use Rattle.trace.proofs.Laws.{ended-as, counted-extended}
 use Rattle.trace.proofs.Feeding.{refused-stays}
 
 -- ---- the bytes p of an unfinished line, in front of the lines of what follows
@@ -41,99 +42,98 @@ joined-none b (a ∷ p) = ap (ahead b) (joined-none a p)
 
 -- ---- a line
 
--- within a line, of which the bytes p have come
-abbrev within : List ℕ → State → Stage
-within p w = record { count = withinLine (w .account) p; tables = w .tables }
+-- within line n, of which the bytes p have come
+abbrev within : List ℕ → ℕ → State Tables → CountStage
+within p n w = extended (goingOn n w) p
 
--- the number of the next line
-abbrev next : State → ℕ
-next w = w .account .requests + 1
+line-ended : (p : List ℕ) (n : ℕ) (w : State Tables) → currentEnded (within p n w) ≡ lineCounted (goingOn n w) (interpreted n (parsed p))
+line-ended p n w = ended-as (within p n w) (parsed p) (read-parsed p) ∙ counted-extended (goingOn n w) p (interpreted n (parsed p))
 
-line-ended : (p : List ℕ) (w : State) → lineEnded (within p w) ≡ judged w (next w) (parsed p)
-unfolding lineEnded
-line-ended p w = ap (judged w (next w)) (read-parsed p)
+-- what a stage reports, with its tables
+abbrev told : CountStage → Ended
+told x = reporting (reported (x .count)) (x .tables)
 
--- a line that is taken is a request more
-next-after : (w : State) (y : Parsed) → lineRefusal (w .account .requests) (next w) y ≡ noRefusal → next (afterLine w (next w) y) ≡ suc (next w)
-unfolding lineRefusal afterLine after
-next-after w Malformed e = absurd (omega (arith, e))
-next-after w (Labelled d a) e = omega arith
+-- a line that asks for y ends, after the stage x
+module _ (x : CountStage) (y : Meaning) where
+  abbrev refusal : ℕ
+  refusal = lineRefusal (stateOf x) y
 
--- the end of the input after a line
-last-line : (w : State) (y : Parsed) (e : Bool) → eqb (lineRefusal (w .account .requests) (next w) y) noRefusal ≡ e
-    → record { report = reported (judged w (next w) y .count); tables = judged w (next w) y .tables }
-    ≡ cond (eqb (lineRefusal (w .account .requests) (next w) y) noRefusal) (stopped (afterLine w (next w) y) noRefusal 0)
-    (stopped w (lineRefusal (w .account .requests) (next w) y) (next w))
-unfolding judged reported
-last-line w y true e = simp e
-last-line w y false e = simp e
+  -- the end of the input
+  last-line : (e : Bool) → eqb refusal noRefusal ≡ e
+      → told (lineCounted x y) ≡ cond (eqb refusal noRefusal) (endedAt (afterLine (stateOf x) y) noRefusal 0) (endedAt (stateOf x) refusal (x .count .«line_number»))
+  unfolding lineCounted reported
+  last-line true e = simp e
+  last-line false e = simp e
 
-refused-finished : (w : State) (r : ℕ) → eqb r noRefusal ≡ false → finished (refusedBy r w) ≡ stopped w r (next w)
-unfolding finished closed reported
-refused-finished w r e = simp e
+  refused-finished : eqb refusal noRefusal ≡ false
+      → finished (countStage (lineRefused refusal (x .count)) (x .tables)) ≡ endedAt (stateOf x) refusal (x .count .«line_number»)
+  unfolding finished closed reported
+  refused-finished e = simp e
 
--- more bytes after a line
-more-lines : (w : State) (y : Parsed) (bs : List ℕ)
-    → ((v : State) → finished (fed (goingOn v) bs) ≡ traced v (next v) (linesOf bs))
-    → (e : Bool) → eqb (lineRefusal (w .account .requests) (next w) y) noRefusal ≡ e
-    → finished (fed (judged w (next w) y) bs)
-    ≡ cond (eqb (lineRefusal (w .account .requests) (next w) y) noRefusal) (traced (afterLine w (next w) y) (suc (next w)) (linesOf bs))
-    (stopped w (lineRefusal (w .account .requests) (next w) y) (next w))
-unfolding judged
-more-lines w y bs ih true e =
-    simp e (ih (afterLine w (next w) y) ∙ ap (λ (n : ℕ). traced (afterLine w (next w) y) n (linesOf bs)) (next-after w y (eqb-true _ _ e)))
-more-lines w y bs ih false e = simp e (ap finished (refused-stays (refusedBy (lineRefusal (w .account .requests) (next w) y) w) bs e) ∙ refused-finished w (lineRefusal (w .account .requests) (next w) y) e)
+  -- more bytes
+  more-lines : (bs : List ℕ)
+      → ((v : State Tables) → finished (fed (goingOn (x .count .«line_number» + 1) v) bs) ≡ traced v (x .count .«line_number» + 1) (linesOf bs))
+      → (e : Bool) → eqb refusal noRefusal ≡ e
+      → finished (fed (lineCounted x y) bs)
+      ≡ cond (eqb refusal noRefusal) (traced (afterLine (stateOf x) y) (x .count .«line_number» + 1) (linesOf bs)) (endedAt (stateOf x) refusal (x .count .«line_number»))
+  unfolding lineCounted
+  more-lines bs ih true e = simp e (ih (afterLine (stateOf x) y))
+  more-lines bs ih false e =
+      simp e (ap finished (refused-stays (countStage (lineRefused refusal (x .count)) (x .tables)) bs e) ∙ refused-finished e)
 
--- ---- one byte within a line
+-- within line n after the state w
+module _ (n : ℕ) (w : State Tables) where
+  -- ---- one byte within a line
 
-newline-byte : (p : List ℕ) (w : State) (b : ℕ) → eqb b 10 ≡ true → stepped (within p w) b ≡ lineEnded (within p w)
-unfolding stepped
-newline-byte p w b e = simp e
+  newline-byte : (p : List ℕ) (b : ℕ) → eqb b newline ≡ true → stepped (within p n w) b ≡ currentEnded (within p n w)
+  unfolding stepped
+  newline-byte p b e = simp e
 
-line-byte : (p : List ℕ) (w : State) (b : ℕ) → eqb b 10 ≡ false → stepped (within p w) b ≡ within (p ++ b ∷ []) w
-unfolding stepped
-line-byte p w b e = simp (e, read-more)
+  line-byte : (p : List ℕ) (b : ℕ) → eqb b newline ≡ false → stepped (within p n w) b ≡ within (p ++ b ∷ []) n w
+  unfolding stepped
+  line-byte p b e = simp (e, read-more)
 
--- ---- the end of the input
+  -- ---- the end of the input
 
-empty-finished : (w : State) → finished (within [] w) ≡ stopped w noRefusal 0
-unfolding finished closed reported
-empty-finished w = refl
+  empty-finished : finished (within [] n w) ≡ endedAt w noRefusal 0
+  unfolding finished closed reported
+  empty-finished = refl
 
-line-finished : (p : List ℕ) (w : State) → eqb (withBytes newLine p .width) 0 ≡ false
-    → finished (within p w) ≡ record { report = reported (lineEnded (within p w) .count); tables = lineEnded (within p w) .tables }
-unfolding finished closed
-line-finished p w e = simp e
+  line-finished : (p : List ℕ) → eqb (withBytes newLine p .width) 0 ≡ false → finished (within p n w) ≡ told (currentEnded (within p n w))
+  unfolding finished closed
+  line-finished p e = simp e
 
 -- ---- all bytes
 
 -- from within a line
 abbrev Law : List ℕ → Type 0
-Law bs = (p : List ℕ) (w : State) → finished (fed (within p w) bs) ≡ traced w (next w) (joined p (linesOf bs))
+Law bs = (p : List ℕ) (n : ℕ) (w : State Tables) → finished (fed (within p n w) bs) ≡ traced w n (joined p (linesOf bs))
 
 whole-none : Law []
-whole-none [] w = empty-finished w
-whole-none (b ∷ p) w =
+whole-none [] n w = empty-finished n w
+whole-none (b ∷ p) n w =
+    let y = interpreted n (parsed (b ∷ p)) in
     rw joined-none
-    (line-finished (b ∷ p) w (ne-eqb _ _ (λ (z : withBytes newLine (b ∷ p) .width ≡ 0). omega (arith, z, width-some newLine b p)))
-    ∙ ap (λ (x : Stage). record { report = reported (x .count); tables = x .tables }) (line-ended (b ∷ p) w)
-    ∙ last-line w (parsed (b ∷ p)) (eqb (lineRefusal (w .account .requests) (next w) (parsed (b ∷ p))) noRefusal) refl)
+    (line-finished n w (b ∷ p) (ne-eqb _ _ (λ (z : withBytes newLine (b ∷ p) .width ≡ 0). omega (arith, z, width-some newLine b p)))
+    ∙ ap told (line-ended (b ∷ p) n w)
+    ∙ last-line (goingOn n w) y (eqb (lineRefusal w y) noRefusal) refl)
 
-whole-more : (b : ℕ) (bs : List ℕ) → Law bs → (e : Bool) → eqb b 10 ≡ e → Law (b ∷ bs)
-whole-more b bs ih true e p w =
-    ap (λ (x : Stage). finished (fed x bs)) (newline-byte p w b e ∙ line-ended p w)
-    ∙ more-lines w (parsed p) bs (ih []) (eqb (lineRefusal (w .account .requests) (next w) (parsed p)) noRefusal) refl
-    ∙ ap (traced w (next w)) (sym (ap (joined p) (simp e) ∙ joined-line p (linesOf bs)))
-whole-more b bs ih false e p w =
-    ap (λ (x : Stage). finished (fed x bs)) (line-byte p w b e)
-    ∙ ih (p ++ b ∷ []) w
-    ∙ ap (traced w (next w)) (joined-more p b (linesOf bs) ∙ ap (joined p) (simp e))
+whole-more : (b : ℕ) (bs : List ℕ) → Law bs → (e : Bool) → eqb b newline ≡ e → Law (b ∷ bs)
+whole-more b bs ih true e p n w =
+    let y = interpreted n (parsed p) in
+    ap (λ (x : CountStage). finished (fed x bs)) (newline-byte n w p b e ∙ line-ended p n w)
+    ∙ more-lines (goingOn n w) y bs (ih [] (n + 1)) (eqb (lineRefusal w y) noRefusal) refl
+    ∙ ap (traced w n) (sym (ap (joined p) (simp e) ∙ joined-line p (linesOf bs)))
+whole-more b bs ih false e p n w =
+    ap (λ (x : CountStage). finished (fed x bs)) (line-byte n w p b e)
+    ∙ ih (p ++ b ∷ []) n w
+    ∙ ap (traced w n) (joined-more p b (linesOf bs) ∙ ap (joined p) (simp e))
 
 whole : (bs : List ℕ) → Law bs
 whole [] = whole-none
-whole (b ∷ bs) = whole-more b bs (whole bs) (eqb b 10) refl
+whole (b ∷ bs) = whole-more b bs (whole bs) (eqb b newline) refl
 
 -- fed from the start, and finished: the report and the tables of the definition by lines
-pub fed-ended : (bs : List ℕ) → finished (fed (record { count = freshCount; tables = fresh traceSetup }) bs) ≡ ended bs
+pub fed-ended : (bs : List ℕ) → finished (fed (countStage freshCount (fresh traceSetup)) bs) ≡ ended bs
 unfolding ended
-fed-ended bs = whole bs [] (opening traceSetup freshAccount)
+fed-ended bs = whole bs [] 1 (opening traceSetup freshAccount)

@@ -1,111 +1,82 @@
--- Small facts of a trace's lines: a line's request, what it adds, and what a count needs to go on.
-use Prim.Native.Nat.{ℕ, _<_}
-use mathlib.Core.Path.{_≡_, refl, sym, ap, _∙_}
-use mathlib.Core.Bool.{Bool, true, false, cond}
+-- What a line makes of a count: the count can go on after it, and what each function returns is `lineCounted`. From `request-passed` (a
+-- request that is not refused is valid, and there is room for it), `bill-spent` (what it can cost) and `usable-served` (what it leaves).
+use Prim.Native.Nat.{ℕ, _+_, _<_}
+use mathlib.Core.Path.{_≡_, refl, ap, _∙_}
+use mathlib.Core.Bool.{false}
 use native.Mathlib.Omega.{arith}
-use lib.Dec.{leb, eqb}
-use borrow.Author.Tests.{eqb-true, ne-eqb}
-use Rattle.protocol.specs.Refusals.{noRefusal, unknownLabel}
-use Rattle.protocol.specs.Board.{fetchPrice, writeBackPrice}
+use lib.Dec.{eqb}
+use borrow.Author.Tests.{eqb-true, eq-eqb, ne-eqb}
+use Rattle.protocol.specs.Refusals.{noRefusal}
 use Rattle.protocol.specs.Tables.{Tables}
-use Rattle.protocol.specs.Requests.{Valid, served, bill, requestLimit, requestRefusal}
-use Rattle.protocol.specs.Accounts.{entered}
-use Rattle.protocol.specs.Runs.{State}
+use Rattle.protocol.specs.Requests.{served, bill, requestRefusal}
+use Rattle.protocol.specs.Accounts.{entered, billOf}
 use Rattle.protocol.specs.declared.Request.{Request}
 use Rattle.protocol.specs.declared.Bill.{Bill}
 use Rattle.protocol.specs.declared.Account.{Account}
-use Rattle.protocol.proofs.Laws.{choice, chosen-zero}
-use Rattle.trace_lines.proofs.Laws.{trace-fits}
+use Rattle.protocol.proofs.Laws.{choice}
+use Rattle.protocol.proofs.Accounts.{spent-plus}
+use Rattle.protocol.proofs.Requests.{request-passed, bill-spent}
+use Rattle.engine.proofs.Usable.{usable-served}
 use Rattle.trace_scan.specs.Automaton.{newLine}
 use Rattle.trace_scan.specs.declared.Line.{Line}
-use Rattle.trace_din.specs.declared.Parsed.{Parsed}
-use Rattle.trace_din.specs.declared.Parsed.the-variants.{Malformed, Labelled}
-use Rattle.protocol.proofs.Requests.{request-passed, bill-small}
-use Rattle.engine.proofs.Usable.{usable-served}
-use Rattle.trace_lines.specs.Trace.{traceSetup, requestAt, lineRefusal, after, afterLine}
-use Rattle.trace_count.specs.Counting.{Stage, stateOf, goingOn, refusedBy, judged, Bounded, Little, Ready}
+use Rattle.trace_lines.specs.Trace.{traceSetup, lineRefusal, afterRequest, afterLine}
+use Rattle.trace_lines.specs.declared.Meaning.{Meaning}
+use Rattle.trace_lines.specs.declared.Meaning.the-variants.{Malformed, Unknown, Asks}
+use Rattle.trace_lines.proofs.Laws.{trace-fits}
+use Rattle.trace_count.specs.Counting.{CountStage, countStage, stateOf, lineRefused, goingOn, lineCounted, Countable, AtStart}
+use Rattle.trace_count.specs.declared.Count.{Count}
 
--- ---- a line's request
+-- ---- a count can go on
 
--- a line that is not refused has a request that can be served
-pub record Taken (m n d a : ℕ) : Type 0 where
-  pub valid : Valid traceSetup (requestAt n d a)
-  pub room : m < requestLimit
-
-pub taken : (m n d a : ℕ) → lineRefusal m n (Labelled d a) ≡ noRefusal → Taken m n d a
-unfolding lineRefusal
-taken m n d a e =
-    let x = chosen-zero (leb d 2) (requestRefusal traceSetup m (requestAt n d a)) unknownLabel (omega arith) e in
-    let y = request-passed traceSetup m (requestAt n d a) (x .1) in
-    record { valid = y .0; room = y .1 }
-
--- ---- what a request adds
-
-pub bill-little : (t : Tables) (q : Request) → Little (bill traceSetup t q)
-unfolding fetchPrice writeBackPrice traceSetup
-bill-little t q =
-    let c = bill-small traceSetup t q in
-    record { fetch = c .0; write-back = c .1; update = c .2 }
-
-pub bounded-entered : (a : Account) (c : Bill) → Bounded a → a .requests < 1000000 → Little c → Bounded (entered a 1 c)
-bounded-entered a c x h l = record {
-  requests = omega arith;
-  fetch = omega (arith, x .fetch, l .fetch);
-  write-back = omega (arith, x .write-back, l .write-back);
-  update = omega (arith, x .update, l .update);
-}
-
--- ---- a count goes on
-
--- the tables and the account after a request that can be served
-ready-after : (w : State) (n d a : ℕ) → Ready (goingOn w) → lineRefusal (w .account .requests) n (Labelled d a) ≡ noRefusal
-    → Ready (goingOn (after w (requestAt n d a)))
-unfolding after
-ready-after w n d a x e =
-    let k = taken (w .account .requests) n d a e in
+-- after a line that is not refused
+countable-line : (x : CountStage) (y : Meaning) → Countable x → lineRefusal (stateOf x) y ≡ noRefusal
+    → Countable (goingOn (x .count .«line_number» + 1) (afterLine (stateOf x) y))
+unfolding afterRequest
+countable-line x Malformed r e = absurd (omega (arith, e))
+countable-line x Unknown r e = absurd (omega (arith, e))
+countable-line x (Asks q) r e =
+    let a = x .count .account in
+    let c = bill traceSetup (x .tables) q in
     record {
-      account = bounded-entered (w .account) (bill traceSetup (w .tables) (requestAt n d a)) (x .account) (k .room) (bill-little (w .tables) (requestAt n d a));
-      tables = usable-served traceSetup trace-fits (w .tables) (requestAt n d a) (k .valid) (x .tables);
+      account = spent-plus traceSetup (a .requests) 1 (billOf a) c (r .account) (bill-spent traceSetup trace-fits (x .tables) q);
+      line-number = omega (arith, r .line-number);
+      tables = usable-served traceSetup trace-fits (x .tables) q (request-passed traceSetup (a .requests) q e .0) (r .tables);
     }
 
-ready-line : (w : State) (n : ℕ) (y : Parsed) → Ready (goingOn w) → lineRefusal (w .account .requests) n y ≡ noRefusal → Ready (goingOn (afterLine w n y))
-unfolding afterLine
-ready-line w n Malformed x e = x
-ready-line w n (Labelled d a) x e = ready-after w n d a x e
+pub countable-counted : (x : CountStage) (y : Meaning) → Countable x → Countable (lineCounted x y)
+unfolding lineCounted
+countable-counted x y r =
+    choice Countable (eqb (lineRefusal (stateOf x) y) noRefusal) (λ e. countable-line x y r (eqb-true _ _ e))
+    (λ e. record { account = r .account; line-number = r .line-number; tables = r .tables })
 
-pub ready-judged : (w : State) (n : ℕ) (y : Parsed) → Ready (goingOn w) → Ready (judged w n y)
-unfolding judged
-ready-judged w n y x =
-    choice Ready (eqb (lineRefusal (w .account .requests) n y) noRefusal) (λ e. ready-line w n y x (eqb-true _ _ e))
-    (λ e. record { account = x .account; tables = x .tables })
+counted-line : (x : CountStage) (y : Meaning) → lineCounted x y .count .line ≡ newLine
+unfolding lineCounted
+counted-line x y = choice (λ (z : CountStage). z .count .line ≡ newLine) (eqb (lineRefusal (stateOf x) y) noRefusal) (λ e. refl) (λ e. refl)
+
+-- a stage z that code reached by a line
+module _ (x : CountStage) (y : Meaning) (z : CountStage) (e : z ≡ lineCounted x y) where
+  pub countable-after : Countable x → Countable z
+  countable-after r = rw e (countable-counted x y r)
+
+  pub counted-start : z .count .refusal ≡ noRefusal → AtStart (z .count)
+  counted-start n = record { line = ap (λ (v : CountStage). v .count .line) e ∙ counted-line x y; refusal = n }
 
 -- ---- what each function returns
 
 -- a line that is refused
-pub judged-refused : (w : State) (n : ℕ) (y : Parsed) (r : ℕ) (l : Line) → l ≡ newLine → r ≡ lineRefusal (w .account .requests) n y → (r ≡ noRefusal → ⊥)
-    → record { count = record { line = l; account = w .account; refusal = r }; tables = w .tables } ≡ judged w n y
-unfolding judged
-judged-refused w n y r l p e d =
-    let f : eqb (lineRefusal (w .account .requests) n y) noRefusal ≡ false = ne-eqb _ _ (λ (z : lineRefusal (w .account .requests) n y ≡ noRefusal). d (e ∙ z)) in
+pub counted-refused : (x : CountStage) (y : Meaning) (r : ℕ) (c : Count) → c ≡ lineRefused r (x .count) → r ≡ lineRefusal (stateOf x) y → (r ≡ noRefusal → ⊥)
+    → countStage c (x .tables) ≡ lineCounted x y
+unfolding lineCounted
+counted-refused x y r c p e d =
+    let f : eqb (lineRefusal (stateOf x) y) noRefusal ≡ false = ne-eqb _ _ (λ (z : lineRefusal (stateOf x) y ≡ noRefusal). d (e ∙ z)) in
     simp (p, e, f)
 
--- a line that is taken
-pub judged-taken : (w : State) (n d a : ℕ) (l : Line) → l ≡ newLine
-    → (b : Account) → b ≡ entered (w .account) 1 (bill traceSetup (w .tables) (requestAt n d a))
-    → (t : Tables) → t ≡ served traceSetup (w .tables) (requestAt n d a)
-    → lineRefusal (w .account .requests) n (Labelled d a) ≡ noRefusal
-    → record { count = record { line = l; account = b; refusal = noRefusal }; tables = t } ≡ judged w n (Labelled d a)
-unfolding judged afterLine after
-judged-taken w n d a l p b q t r e = simp (p, q, r, e)
-
--- a line that goes on
-taken-on : (c : Bool) (v w : State) (r : ℕ) → cond c (goingOn v) (refusedBy r w) .count .refusal ≡ noRefusal
-    → cond c (goingOn v) (refusedBy r w) ≡ goingOn (stateOf (cond c (goingOn v) (refusedBy r w)))
-taken-on true v w r e = refl
-taken-on false v w r e = ap (λ (n : ℕ). refusedBy n w) e
-
-pub judged-on : (w : State) (n : ℕ) (y : Parsed) (x : Stage) → x ≡ judged w n y → x .count .refusal ≡ noRefusal → judged w n y ≡ goingOn (stateOf x)
-unfolding judged
-judged-on w n y x e z =
-    taken-on (eqb (lineRefusal (w .account .requests) n y) noRefusal) (afterLine w n y) w (lineRefusal (w .account .requests) n y) (sym (ap (λ (v : Stage). v .count .refusal) e) ∙ z)
-    ∙ ap (λ (v : Stage). goingOn (stateOf v)) (sym e)
+-- a request that is taken
+pub counted-taken : (x : CountStage) (q : Request) (l : Line) → l ≡ newLine
+    → (d : Bill) → d ≡ bill traceSetup (x .tables) q
+    → (b : Account) → b ≡ entered (x .count .account) 1 d
+    → (t : Tables) → t ≡ served traceSetup (x .tables) q
+    → requestRefusal traceSetup (x .count .account .requests) q ≡ noRefusal
+    → countStage (record { line = l; «line_number» = x .count .«line_number» + 1; account = b; refusal = noRefusal }) t ≡ lineCounted x (Asks q)
+unfolding lineCounted afterRequest
+counted-taken x q l p d h b f t g e = simp (p, f, h, g, e)

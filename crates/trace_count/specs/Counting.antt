@@ -1,77 +1,79 @@
 -- A count of a trace over lent tables: what a line that ends makes of it, and what is reported of it.
-use Prim.Native.Nat.{ℕ, _+_, _*_, _≤_}
+use Prim.Native.Nat.{ℕ, _+_, _≤_}
+use mathlib.Core.Path.{_≡_}
 use mathlib.Core.Bool.{cond}
 use mathlib.Core.List.{List}
 use lib.Dec.{eqb}
 use Rattle.protocol.specs.Refusals.{noRefusal}
-use Rattle.protocol.specs.Tables.{Tables, tables}
-use Rattle.protocol.specs.Requests.{requestLimit}
-use Rattle.protocol.specs.Accounts.{freshAccount}
-use Rattle.protocol.specs.Runs.{State}
-use Rattle.protocol.specs.declared.Account.{Account}
-use Rattle.protocol.specs.declared.Bill.{Bill}
-use Rattle.trace_scan.specs.Automaton.{newLine}
-use Rattle.trace_din.specs.declared.Parsed.{Parsed}
+use Rattle.protocol.specs.Tables.{Tables}
+use Rattle.protocol.specs.Accounts.{freshAccount, Spent, billOf}
+use Rattle.protocol.specs.Engines.{State}
 use Rattle.engine.specs.Usable.{Usable}
-use Rattle.trace_lines.specs.Trace.{traceSetup, lineRefusal, afterLine}
+use Rattle.trace_din.specs.declared.Parsed.{Parsed}
+use Rattle.trace_scan.specs.Automaton.{newLine, withBytes}
+use Rattle.trace_lines.specs.Trace.{traceSetup, interpreted, lineRefusal, afterLine}
+use Rattle.trace_lines.specs.declared.Meaning.{Meaning}
 use Rattle.trace_lines.specs.declared.Report.{Report}
 use Rattle.trace_count.specs.declared.Count.{Count}
 
 -- a count, with the lent tables
-pub record Stage : Type 0 where
+pub record CountStage : Type 0 where
   pub count : Count
   pub tables : Tables
 
-abbrev pub stage : Count → List ℕ → List ℕ → List ℕ → List ℕ → List ℕ → Stage
-stage c b n m w g = record { count = c; tables = tables b n m w g }
-
-abbrev pub state : Account → List ℕ → List ℕ → List ℕ → List ℕ → List ℕ → State
-state a b n m w g = record { tables = tables b n m w g; account = a }
+abbrev pub countStage : Count → Tables → CountStage
+countStage c t = record { count = c; tables = t }
 
 -- the tables and the account
-abbrev pub stateOf : Stage → State
+abbrev pub stateOf : CountStage → State Tables
 stateOf x = record { tables = x .tables; account = x .count .account }
 
--- before the first byte
+-- before the first byte: "the line number, from 1"
 abbrev pub freshCount : Count
-freshCount = record { line = newLine; account = freshAccount; refusal = noRefusal }
+freshCount = record { line = newLine; «line_number» = 1; account = freshAccount; refusal = noRefusal }
 
--- ---- the end of a line
+-- ---- the current line
 
--- at the start of a line, with no refusal
-abbrev pub goingOn : State → Stage
-goingOn w = record { count = record { line = newLine; account = w .account; refusal = noRefusal }; tables = w .tables }
+-- more bytes of it
+abbrev pub lengthened : Count → List ℕ → Count
+lengthened c bs = record { line = withBytes (c .line) bs; «line_number» = c .«line_number»; account = c .account; refusal = c .refusal }
 
--- refused by r
-abbrev pub refusedBy : ℕ → State → Stage
-refusedBy r w = record { count = record { line = newLine; account = w .account; refusal = r }; tables = w .tables }
+-- it is refused by r
+abbrev pub lineRefused : ℕ → Count → Count
+lineRefused r c = record { line = newLine; «line_number» = c .«line_number»; account = c .account; refusal = r }
 
--- a line that is y, as number n
-unfoldable pub judged : State → ℕ → Parsed → Stage
-judged w n y = cond (eqb (lineRefusal (w .account .requests) n y) noRefusal) (goingOn (afterLine w n y)) (refusedBy (lineRefusal (w .account .requests) n y) w)
+-- at the start of line n, with no refusal
+abbrev pub goingOn : ℕ → State Tables → CountStage
+goingOn n w = countStage (record { line = newLine; «line_number» = n; account = w .account; refusal = noRefusal }) (w .tables)
+
+-- it asks for y
+unfoldable pub lineCounted : CountStage → Meaning → CountStage
+lineCounted x y =
+    cond (eqb (lineRefusal (stateOf x) y) noRefusal)
+    (goingOn (x .count .«line_number» + 1) (afterLine (stateOf x) y))
+    (countStage (lineRefused (lineRefusal (stateOf x) y) (x .count)) (x .tables))
+
+-- it ends, and is so parsed
+abbrev pub lineEnded : CountStage → Parsed → CountStage
+lineEnded x y = lineCounted x (interpreted (x .count .«line_number») y)
 
 -- ---- the report
 
 -- the refused line is the current one
 unfoldable pub reported : Count → Report
-reported c = record { account = c .account; refusal = c .refusal; line = cond (eqb (c .refusal) noRefusal) 0 (c .account .requests + 1) }
+reported c = record { account = c .account; refusal = c .refusal; line = cond (eqb (c .refusal) noRefusal) 0 (c .«line_number») }
 
--- ---- the account while it is counted
+-- ---- what functions ask for
 
--- condition 21, at most 1,000,000 requests, as facts
-pub record Bounded (a : Account) : Type 0 where
-  pub requests : a .requests ≤ requestLimit
-  pub fetch : a .fetch ≤ 4 * a .requests
-  pub write-back : a .«write_back» ≤ 4 * a .requests
-  pub update : a .update ≤ a .requests
-
--- the bill of one request: at most one move of each kind, and one update
-pub record Little (c : Bill) : Type 0 where
-  pub fetch : c .fetch ≤ 4
-  pub write-back : c .«write_back» ≤ 4
-  pub update : c .update ≤ 1
-
--- a count that can go on: tables that a request can be served on, and room in the account
-pub record Ready (x : Stage) : Type 0 where
-  pub account : Bounded (x .count .account)
+-- a count that can go on
+pub record Countable (x : CountStage) : Type 0 where
+  -- condition 21, as facts
+  pub account : Spent traceSetup (x .count .account .requests) (billOf (x .count .account))
+  -- every line before was a request, so that 22 comes before the line number can be too large
+  pub line-number : x .count .«line_number» ≤ x .count .account .requests + 1
   pub tables : Usable traceSetup (x .tables)
+
+-- a count at the start of a line, with no refusal
+pub record AtStart (c : Count) : Type 0 where
+  pub line : c .line ≡ newLine
+  pub refusal : c .refusal ≡ noRefusal

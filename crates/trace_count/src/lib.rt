@@ -1,116 +1,27 @@
-// What a trace has come to so far, and its next line judged over the lent tables.
+// What a trace has come to so far, and its current line counted over the lent tables.
 use protocol::Account;
 use protocol::Bill;
+use protocol::Request;
 use trace_din::Parsed;
+use trace_lines::Meaning;
 use trace_lines::Report;
-use trace_lines::line_refusal;
-use trace_lines::request_at;
+use trace_lines::interpret;
 use trace_lines::trace_setup;
 use trace_scan::Line;
 ghost use mathlib.Core.Path.{_≡_};
-ghost use Prim.Native.Nat.{_+_};
-ghost use Rattle.protocol.specs.Tables.{tables};
-ghost use Rattle.protocol.specs.Accounts.{entered};
-ghost use Rattle.engine.specs.Usable.{Usable};
+ghost use Prim.Native.Nat.{_<_};
+ghost use Rattle.protocol.specs.Lent.{lent, before, after};
+ghost use Rattle.protocol.specs.Requests.{requestLimit};
+ghost use Rattle.protocol.specs.Accounts.{entered, Spent, billOf};
 ghost use Rattle.trace_lines.specs.Trace.{traceSetup};
-ghost use Rattle.trace_count.specs.Counting.{stage, state, freshCount, judged, reported, Bounded, Little};
+ghost use Rattle.trace_count.specs.Counting.{countStage, freshCount, lengthened, lineRefused, lineCounted, lineEnded, reported, Countable};
 
-// A trace so far: its current line, what the lines before came to, and the refusal that stopped it, or 0.
+// A trace so far: its current line and that line's number, what the lines before came to, and the refusal that stopped it, or 0.
 pub struct Count {
     pub line: Line,
+    pub line_number: u32,
     pub account: Account,
     pub refusal: u32,
-}
-
-// The account after a request with this bill.
-fn enter(account: Account, bill: Bill) -> Account
-    requires { ⌜ Bounded account ⌝ }
-    requires { ⌜ Little bill ⌝ }
-    ensures { λ r. ⌜ r ≡ entered account 1 bill ⌝ }
-{
-    Account {
-        requests: account.requests + 1,
-        fetch: account.fetch + bill.fetch,
-        write_back: account.write_back + bill.write_back,
-        update: account.update + bill.update,
-    }
-}
-
-// A line of this label and address ends: its request is served, or refused.
-fn take_line(
-    account: Account,
-    label: u32,
-    address: u32,
-    blocks: &mut [u32],
-    counters: &mut [u32],
-    marks: &mut [u32],
-    words: &mut [u32],
-    memory: &mut [u32],
-) -> Count
-    requires { ⌜ Bounded account ⌝ }
-    requires { ⌜ Usable traceSetup (tables (now blocks) (now counters) (now marks) (now words) (now memory)) ⌝ }
-    ensures { λ r. ⌜ stage r (now (blocks .exit)) (now (counters .exit)) (now (marks .exit)) (now (words .exit)) (now (memory .exit))
-        ≡ judged (state account (now (blocks .entry)) (now (counters .entry)) (now (marks .entry)) (now (words .entry)) (now (memory .entry))) (account .requests + 1) (Parsed.Labelled label address) ⌝ }
-{
-    let requests = account.requests;
-    let refusal = line_refusal(requests, label, address);
-    if refusal != protocol::NO_REFUSAL {
-        return Count {
-            line: Line::new(),
-            account: account,
-            refusal: refusal,
-        };
-    }
-    let request = request_at(requests + 1, label, address);
-    let done = engine::serve(
-        trace_setup(),
-        request,
-        blocks,
-        counters,
-        marks,
-        words,
-        memory,
-    );
-    let bill = done.bill;
-    Count {
-        line: Line::new(),
-        account: enter(account, bill),
-        refusal: protocol::NO_REFUSAL,
-    }
-}
-
-// A line that is so parsed ends.
-pub fn judge(
-    account: Account,
-    parsed: Parsed,
-    blocks: &mut [u32],
-    counters: &mut [u32],
-    marks: &mut [u32],
-    words: &mut [u32],
-    memory: &mut [u32],
-) -> Count
-    requires { ⌜ Bounded account ⌝ }
-    requires { ⌜ Usable traceSetup (tables (now blocks) (now counters) (now marks) (now words) (now memory)) ⌝ }
-    ensures { λ r. ⌜ stage r (now (blocks .exit)) (now (counters .exit)) (now (marks .exit)) (now (words .exit)) (now (memory .exit))
-        ≡ judged (state account (now (blocks .entry)) (now (counters .entry)) (now (marks .entry)) (now (words .entry)) (now (memory .entry))) (account .requests + 1) parsed ⌝ }
-{
-    match parsed {
-        Parsed::Malformed => Count {
-            line: Line::new(),
-            account: account,
-            refusal: protocol::MALFORMED_LINE,
-        },
-        Parsed::Labelled(label, address) => take_line(
-            account,
-            label,
-            address,
-            blocks,
-            counters,
-            marks,
-            words,
-            memory,
-        ),
-    }
 }
 
 impl Count {
@@ -120,6 +31,7 @@ impl Count {
     {
         Self {
             line: Line::new(),
+            line_number: 1,
             account: Account {
                 requests: 0,
                 fetch: 0,
@@ -130,9 +42,35 @@ impl Count {
         }
     }
 
+    // More bytes of the current line, none of them a newline.
+    pub fn lengthen(self, bytes: &[u8]) -> Count
+        ensures { λ r. ⌜ r ≡ lengthened self (now (bytes .entry)) ⌝ }
+    {
+        let line = self.line;
+        let account = self.account;
+        Count {
+            line: line.bytes(bytes),
+            line_number: self.line_number,
+            account: account,
+            refusal: self.refusal,
+        }
+    }
+
+    // The current line is refused.
+    fn refuse_line(self, refusal: u32) -> Count
+        ensures { λ r. ⌜ r ≡ lineRefused refusal self ⌝ }
+    {
+        let account = self.account;
+        Count {
+            line: Line::new(),
+            line_number: self.line_number,
+            account: account,
+            refusal: refusal,
+        }
+    }
+
     // What is reported of a trace that ends here.
     pub fn reported(self) -> Report
-        requires { ⌜ Bounded (self .account) ⌝ }
         ensures { λ r. ⌜ r ≡ reported self ⌝ }
     {
         let account = self.account;
@@ -146,7 +84,82 @@ impl Count {
         Report {
             account: account,
             refusal: self.refusal,
-            line: account.requests + 1,
+            line: self.line_number,
         }
+    }
+}
+
+// The account after a request with this bill.
+fn enter(account: Account, bill: Bill) -> Account
+    requires { ⌜ account .requests < requestLimit ⌝ }
+    requires { ⌜ Spent traceSetup (account .requests) (billOf account) ⌝ }
+    requires { ⌜ Spent traceSetup 1 bill ⌝ }
+    ensures { λ r. ⌜ r ≡ entered account 1 bill ⌝ }
+{
+    Account {
+        requests: account.requests + 1,
+        fetch: account.fetch + bill.fetch,
+        write_back: account.write_back + bill.write_back,
+        update: account.update + bill.update,
+    }
+}
+
+// The current line asks for this request, which is served, or refused.
+fn take_request(
+    count: Count,
+    request: Request,
+    blocks: &mut [u32],
+    counters: &mut [u32],
+    marks: &mut [u32],
+    words: &mut [u32],
+    memory: &mut [u32],
+) -> Count
+    requires { ⌜ Countable (countStage count (lent blocks counters marks words memory)) ⌝ }
+    ensures { λ r. ⌜ countStage r (after blocks counters marks words memory)
+        ≡ lineCounted (countStage count (before blocks counters marks words memory)) (Meaning.Asks request) ⌝ }
+{
+    let account = count.account;
+    let setup = trace_setup();
+    let refusal = setup.request_refusal(account.requests, request);
+    if refusal != protocol::NO_REFUSAL {
+        return count.refuse_line(refusal);
+    }
+    let done = engine::serve(setup, request, blocks, counters, marks, words, memory);
+    let bill = done.bill;
+    Count {
+        line: Line::new(),
+        line_number: count.line_number + 1,
+        account: enter(account, bill),
+        refusal: protocol::NO_REFUSAL,
+    }
+}
+
+// The current line ends, and is so parsed.
+pub fn end_line(
+    count: Count,
+    parsed: Parsed,
+    blocks: &mut [u32],
+    counters: &mut [u32],
+    marks: &mut [u32],
+    words: &mut [u32],
+    memory: &mut [u32],
+) -> Count
+    requires { ⌜ Countable (countStage count (lent blocks counters marks words memory)) ⌝ }
+    ensures { λ r. ⌜ countStage r (after blocks counters marks words memory)
+        ≡ lineEnded (countStage count (before blocks counters marks words memory)) parsed ⌝ }
+{
+    let meaning = interpret(count.line_number, parsed);
+    match meaning {
+        Meaning::Malformed => count.refuse_line(protocol::MALFORMED_LINE),
+        Meaning::Unknown => count.refuse_line(protocol::UNKNOWN_LABEL),
+        Meaning::Asks(request) => take_request(
+            count,
+            request,
+            blocks,
+            counters,
+            marks,
+            words,
+            memory,
+        ),
     }
 }

@@ -10,8 +10,9 @@ use lib.ListN.{length, take, drop, getD, length-drop}
 use lib.Seq.{drop-cons, drop-length, drop-drop}
 use lib.Dec.{leb, ltb}
 use borrow.Author.Tests.{lt-ltb, le-ltb, ltb-true, ltb-false, leb-true, eq-eqb, ne-eqb}
-use Rattle.trace_din.specs.Lines.{isText, isDigit, hexValue, isHex, leading, behind, hexNumber}
+use Rattle.trace_din.specs.Lines.{newline, isText, isDigit, hexValue, isHex, leading, behind, hexNumber, addressDigits}
 use Rattle.trace_din.specs.Digits.{shifted, shiftedAll}
+use Rattle.trace_din.specs.Places.{EndsAt}
 
 -- ---- from a place on
 
@@ -47,11 +48,7 @@ pub drop-leading : (P : ℕ → Bool) (l : List ℕ) → drop (length (leading P
 drop-leading P [] = refl
 drop-leading P (b ∷ l) = drop-more P b l (drop-leading P l) (P b) refl
 
--- from a place i on, the leading bytes that pass end at place e
-abbrev pub Ends-at : (ℕ → Bool) → List ℕ → ℕ → ℕ → Type 0
-Ends-at P l i e = e ≡ i + length (leading P (drop i l))
-
-pub rest-at : (P : ℕ → Bool) (l : List ℕ) (i e : ℕ) → Ends-at P l i e → behind P (drop i l) ≡ drop e l
+pub rest-at : (P : ℕ → Bool) (l : List ℕ) (i e : ℕ) → EndsAt P l i e → behind P (drop i l) ≡ drop e l
 rest-at P l i e h = sym (drop-leading P (drop i l)) ∙ drop-drop (length (leading P (drop i l))) i l ∙ ap (λ (k : ℕ). drop k l) (sym h)
 
 -- the byte behind them does not pass
@@ -64,7 +61,7 @@ behind-fails : (P : ℕ → Bool) (l : List ℕ) → 0 < length (behind P l) →
 behind-fails P [] = λ h. absurd (omega arith)
 behind-fails P (b ∷ l) = fails-more P b l (behind-fails P l) (P b) refl
 
-pub fails-at : (P : ℕ → Bool) (l : List ℕ) (i e : ℕ) → Ends-at P l i e → e < length l → P (getD l e 0) ≡ false
+pub fails-at : (P : ℕ → Bool) (l : List ℕ) (i e : ℕ) → EndsAt P l i e → e < length l → P (getD l e 0) ≡ false
 fails-at P l i e h k =
     let r = rest-at P l i e h ∙ drop-cons l e 0 k in
     let z : 0 < length (behind P (drop i l)) = rw r (omega arith) in
@@ -102,7 +99,7 @@ unfolding isHex
 not-hex b d e h = le-ltb (hexValue b) 16 (omega (arith, e, h))
 
 -- of at most 8 digits none is lost
-pub shifted-fits : (n v h : ℕ) → n < 8 → v < 16 ^ n → h < 16 → (shifted v h ≡ v * 16 + h) × (v * 16 + h < 16 ^ (n + 1))
+pub shifted-fits : (n v h : ℕ) → n < addressDigits → v < 16 ^ n → h < 16 → (shifted v h ≡ v * 16 + h) × (v * 16 + h < 16 ^ (n + 1))
 shifted-fits n v h hn hv hh =
     let small : v < 268435456 = omega (arith, pow-le-pow-right {n = 16} (omega arith) {i = n} {j = 7} (omega arith)) in
     (ap (λ (x : ℕ). x * 16 + h) (mod-eq-of-lt small), rw add-one (omega (arith, pow-suc 16 n)))
@@ -112,7 +109,7 @@ unfolding isHex
 hex-lt b h = ltb-true _ _ h
 
 abbrev Kept : List ℕ → Type 0
-Kept l = (n v : ℕ) → n + length (leading isHex l) ≤ 8 → v < 16 ^ n → shiftedAll v (leading isHex l) ≡ hexNumber v (leading isHex l)
+Kept l = (n v : ℕ) → n + length (leading isHex l) ≤ addressDigits → v < 16 ^ n → shiftedAll v (leading isHex l) ≡ hexNumber v (leading isHex l)
 
 kept-more : (b : ℕ) (l : List ℕ) → Kept l → (c : Bool) → isHex b ≡ c → Kept (b ∷ l)
 kept-more b l ih true e n v h k =
@@ -125,16 +122,16 @@ kept : (l : List ℕ) → Kept l
 kept [] = λ n v h k. refl
 kept (b ∷ l) = kept-more b l (kept l) (isHex b) refl
 
-pub digits-kept : (l : List ℕ) → length (leading isHex l) ≤ 8 → shiftedAll 0 (leading isHex l) ≡ hexNumber 0 (leading isHex l)
+pub digits-kept : (l : List ℕ) → length (leading isHex l) ≤ addressDigits → shiftedAll 0 (leading isHex l) ≡ hexNumber 0 (leading isHex l)
 digits-kept l h = kept l 0 0 (omega (arith, h)) (omega arith)
 
 -- ---- newlines
 
 -- the test of a newline, as the code makes it
-pub is-text : (b : ℕ) → (b ≡ 10 → ⊥) → isText b ≡ true
+pub is-text : (b : ℕ) → (b ≡ newline → ⊥) → isText b ≡ true
 unfolding isText
-is-text b d = simp (ne-eqb b 10 d)
+is-text b d = simp (ne-eqb b newline d)
 
-pub not-text : (b : ℕ) → b ≡ 10 → isText b ≡ false
+pub not-text : (b : ℕ) → b ≡ newline → isText b ≡ false
 unfolding isText
-not-text b e = simp (eq-eqb b 10 e)
+not-text b e = simp (eq-eqb b newline e)

@@ -4,12 +4,12 @@ use mathlib.Core.Path.{_≡_, refl, ap, _∙_}
 use mathlib.Core.Bool.{false}
 use mathlib.Core.List.{List, [], _∷_, _++_}
 use lib.Dec.{eqb}
-use Rattle.trace_din.specs.Lines.{ahead, linesOf}
+use Rattle.trace_din.specs.Lines.{newline, ahead, linesOf}
 
 -- bytes without a newline
 abbrev pub Text : List ℕ → Type 0
 Text [] = Unit {0}
-Text (b ∷ l) = (eqb b 10 ≡ false) × Text l
+Text (b ∷ l) = (eqb b newline ≡ false) × Text l
 
 abbrev pub AllText : List (List ℕ) → Type 0
 AllText [] = Unit {0}
@@ -18,7 +18,7 @@ AllText (l ∷ ls) = Text l × AllText ls
 -- each line with its newline, then the last one without
 abbrev pub written : List (List ℕ) → List ℕ → List ℕ
 written [] last = last
-written (l ∷ ls) last = l ++ (10 ∷ written ls last)
+written (l ∷ ls) last = l ++ (newline ∷ written ls last)
 
 -- input that ends right after a newline has no further line
 abbrev pub withLast : List (List ℕ) → List ℕ → List (List ℕ)
@@ -26,7 +26,7 @@ withLast [] [] = []
 withLast [] (b ∷ l) = (b ∷ l) ∷ []
 withLast (l ∷ ls) last = l ∷ withLast ls last
 
-split-line : (l rest : List ℕ) → Text l → linesOf (l ++ (10 ∷ rest)) ≡ l ∷ linesOf rest
+split-line : (l rest : List ℕ) → Text l → linesOf (l ++ (newline ∷ rest)) ≡ l ∷ linesOf rest
 split-line [] rest t = refl
 split-line (b ∷ l) rest t = simp (t .0) (ap (ahead b) (split-line l rest (t .1)))
 

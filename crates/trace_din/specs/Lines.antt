@@ -9,6 +9,9 @@ use Rattle.trace_din.specs.declared.Parsed.the-variants.{Malformed, Labe
 
 -- ---- the lines of a trace
 
+abbrev pub newline : ℕ
+newline = 10
+
 -- one byte more at the front of the first line
 abbrev pub ahead : ℕ → List (List ℕ) → List (List ℕ)
 ahead b [] = (b ∷ []) ∷ []
@@ -17,11 +20,11 @@ ahead b (l ∷ ls) = (b ∷ l) ∷ ls
 -- the bytes between newlines: "a last line may lack its newline, and input that ends right after a newline has no further line"
 abbrev pub linesOf : List ℕ → List (List ℕ)
 linesOf [] = []
-linesOf (b ∷ bs) = cond (eqb b 10) ([] ∷ linesOf bs) (ahead b (linesOf bs))
+linesOf (b ∷ bs) = cond (eqb b newline) ([] ∷ linesOf bs) (ahead b (linesOf bs))
 
 -- a byte that is no newline
 unfoldable pub isText : ℕ → Bool
-isText b = not (eqb b 10)
+isText b = not (eqb b newline)
 
 -- ---- the bytes of a line
 
@@ -71,10 +74,14 @@ ends (b ∷ bs) = isGap b
 
 -- ---- a line
 
--- "1 to 8 hexadecimal digits of either case", where the label is d
+-- "1 to 8 hexadecimal digits of either case"
+abbrev pub addressDigits : ℕ
+addressDigits = 8
+
+-- where the label is d
 unfoldable pub addressed : ℕ → List ℕ → Parsed
 addressed d l =
-    cond (leb 1 (length (leading isHex l)) && leb (length (leading isHex l)) 8 && ends (behind isHex l))
+    cond (leb 1 (length (leading isHex l)) && leb (length (leading isHex l)) addressDigits && ends (behind isHex l))
     (Labelled d (hexNumber 0 (leading isHex l))) Malformed
 
 -- "one or more blanks or tabs"
@@ -87,5 +94,8 @@ parsedLine [] = Malformed
 parsedLine (b ∷ l) = cond (isDigit b) (separated (b - 48) l) Malformed
 
 -- "Lines over 80 bytes without their newline … are malformed"
+abbrev pub lineLimit : ℕ
+lineLimit = 80
+
 unfoldable pub parsed : List ℕ → Parsed
-parsed l = cond (leb (length l) 80) (parsedLine l) Malformed
+parsed l = cond (leb (length l) lineLimit) (parsedLine l) Malformed

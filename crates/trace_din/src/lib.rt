@@ -1,9 +1,16 @@
 // The lines of a din trace, parsed where they lie.
 ghost use mathlib.Core.Path.{_≡_};
-ghost use Prim.Native.Nat.{_+_, _<_, _≤_};
-ghost use lib.ListN.{length, drop};
-ghost use Rattle.trace_din.specs.Lines.{isText, isDigit, isBlank, isGap, hexValue, isHex, leading, addressed, parsed};
-ghost use Rattle.trace_din.specs.Digits.{shifted, shiftedAll};
+ghost use Prim.Native.Nat.{_<_, _≤_};
+ghost use lib.ListN.{length};
+ghost use Rattle.trace_din.specs.Lines.{isText, isDigit, isBlank, isGap, hexValue};
+ghost use Rattle.trace_din.specs.Digits.{shifted};
+ghost use Rattle.trace_din.specs.Places.{EndsAt, AddressAt, RestAt, FirstOf};
+
+// The most bytes of a line without its newline.
+pub const LINE_LIMIT: u32 = 80;
+
+// The most digits of an address.
+pub const ADDRESS_DIGITS: u32 = 8;
 
 // What a line is: malformed, or a label and an address.
 pub enum Parsed {
@@ -77,7 +84,7 @@ fn is_digit(b: u8) -> bool
 // The first place from `from` on that has no blank or tab, or the bytes' end.
 fn blanks_end(bytes: &[u8], from: usize) -> usize
     requires { ⌜ from ≤ length (now bytes) ⌝ }
-    ensures { λ r. ⌜ r ≡ from + length (leading isBlank (drop from (now (bytes .entry)))) ⌝ }
+    ensures { λ r. ⌜ EndsAt isBlank (now (bytes .entry)) from r ⌝ }
 {
     let mut i = from;
     while i < bytes.len() {
@@ -97,7 +104,7 @@ struct Address {
 
 fn address_at(bytes: &[u8], from: usize) -> Address
     requires { ⌜ from ≤ length (now bytes) ⌝ }
-    ensures { λ r. ⌜ (r .end ≡ from + length (leading isHex (drop from (now (bytes .entry))))) × (r .number ≡ shiftedAll 0 (leading isHex (drop from (now (bytes .entry))))) ⌝ }
+    ensures { λ r. ⌜ AddressAt (now (bytes .entry)) from r ⌝ }
 {
     let mut i = from;
     let mut number = 0;
@@ -118,7 +125,7 @@ fn address_at(bytes: &[u8], from: usize) -> Address
 // The place of the first newline from `from` on, or the bytes' end.
 pub fn line_end(bytes: &[u8], from: usize) -> usize
     requires { ⌜ from ≤ length (now bytes) ⌝ }
-    ensures { λ r. ⌜ r ≡ from + length (leading isText (drop from (now (bytes .entry)))) ⌝ }
+    ensures { λ r. ⌜ EndsAt isText (now (bytes .entry)) from r ⌝ }
 {
     let mut i = from;
     while i < bytes.len() {
@@ -139,7 +146,7 @@ pub struct FirstLine {
 // The rest of a line with this label, from its address on. That a line may be too wide plays no part here.
 fn rest_of_line(label: u32, bytes: &[u8], from: usize) -> FirstLine
     requires { ⌜ from ≤ length (now bytes) ⌝ }
-    ensures { λ r. ⌜ (r .end ≡ from + length (leading isText (drop from (now (bytes .entry))))) × (r .parsed ≡ addressed label (leading isText (drop from (now (bytes .entry))))) ⌝ }
+    ensures { λ r. ⌜ RestAt label (now (bytes .entry)) from r ⌝ }
 {
     let address = address_at(bytes, from);
     let behind = address.end;
@@ -152,7 +159,7 @@ fn rest_of_line(label: u32, bytes: &[u8], from: usize) -> FirstLine
     if count < 1 {
         return malformed;
     }
-    if count > 8 {
+    if count > ADDRESS_DIGITS as usize {
         return malformed;
     }
     if behind < end {
@@ -168,7 +175,7 @@ fn rest_of_line(label: u32, bytes: &[u8], from: usize) -> FirstLine
 
 // The first line of some bytes, in one pass.
 pub fn first_line(bytes: &[u8]) -> FirstLine
-    ensures { λ r. ⌜ (r .end ≡ length (leading isText (now (bytes .entry)))) × (r .parsed ≡ parsed (leading isText (now (bytes .entry)))) ⌝ }
+    ensures { λ r. ⌜ FirstOf (now (bytes .entry)) r ⌝ }
 {
     if bytes.len() < 1 {
         return FirstLine {
@@ -191,7 +198,7 @@ pub fn first_line(bytes: &[u8]) -> FirstLine
         };
     }
     let rest = rest_of_line((first - b'0') as u32, bytes, from);
-    if rest.end > 80 {
+    if rest.end > LINE_LIMIT as usize {
         return FirstLine {
             parsed: Parsed::Malformed,
             end: rest.end,

@@ -1,15 +1,15 @@
--- Every row of the table of traces passes.
+-- Every row of the table of traces passes, by computing.
 use mathlib.Core.Path.{_≡_, refl}
 use mathlib.Core.Bool.{true}
 use Rattle.protocol.specs.Lists.{first, other}
 use Rattle.protocol.specs.Board.{fetchPrice, writeBackPrice, blockOf, offsetOf, lineOf, slots, slot, wordIndex}
-use Rattle.protocol.specs.Tables.{lineWords, memoryWords, fresh, holdsAt, holds, marked}
+use Rattle.protocol.specs.Tables.{lineWords, memoryWords, fresh, holdsAt, holds, sharing, marked}
 use Rattle.protocol.specs.Rules.{writtenBack, emptied, filled, saved, saveCycles, evicted, owner, released, fetched, obtained, fetchCycles, writeBackCycles, payer, writtenAlone, broadcast, charged, written, updateCycles}
-use Rattle.protocol.specs.Requests.{isWrite, variableOf, newValue, target, served, value, bill, requestRefusal}
+use Rattle.protocol.specs.Requests.{variableRefusal, served, bill, requestRefusal}
 use Rattle.trace_din.specs.Lines.{isDigit, isBlank, isGap, hexValue, isHex, addressed, separated, parsed}
-use Rattle.trace_lines.specs.Trace.{traceSetup, processorAt, variableAt, requestAt, lineRefusal, after, afterLine, ended}
+use Rattle.trace_lines.specs.Trace.{traceSetup, processorAt, variableAt, interpretedLabel, afterRequest, ended}
 use Rattle.trace_lines.specs.Cases.{everyRow, rows}
 
 pub cases-pass : everyRow rows ≡ true
-unfolding first other fetchPrice writeBackPrice blockOf offsetOf lineOf slots slot wordIndex lineWords memoryWords fresh holdsAt holds marked writtenBack emptied filled saved saveCycles evicted owner released fetched obtained fetchCycles writeBackCycles payer writtenAlone broadcast charged written updateCycles isWrite variableOf newValue target served value bill requestRefusal isDigit isBlank isGap hexValue isHex addressed separated parsed traceSetup processorAt variableAt requestAt lineRefusal after afterLine ended rows
+unfolding first other fetchPrice writeBackPrice blockOf offsetOf lineOf slots slot wordIndex lineWords memoryWords fresh holdsAt holds sharing marked writtenBack emptied filled saved saveCycles evicted owner released fetched obtained fetchCycles writeBackCycles payer writtenAlone broadcast charged written updateCycles variableRefusal served bill requestRefusal isDigit isBlank isGap hexValue isHex addressed separated parsed traceSetup processorAt variableAt interpretedLabel afterRequest ended rows
 cases-pass = refl

@@ -1,4 +1,4 @@
-// The request of a line of a trace, and what refuses the line.
+// What a line of a trace asks for.
 use protocol::Account;
 use protocol::Operation;
 use protocol::Request;
@@ -6,14 +6,23 @@ use protocol::Setup;
 use protocol::Variable;
 use trace_din::Parsed;
 ghost use mathlib.Core.Path.{_≡_};
-ghost use Prim.Native.Nat.{ℕ};
-ghost use Rattle.trace_lines.specs.Trace.{traceSetup, processorAt, variableAt, requestAt, lineRefusal};
+ghost use Rattle.trace_lines.specs.Trace.{traceSetup, processorAt, variableAt, readAt, writeAt, interpretedLabel, interpreted};
+
+// The addresses of one processor: its number is the top byte.
+const PROCESSOR_STRIDE: u32 = 16777216;
 
 // What is reported: the account, and the refusal and its line, 0 and 0 if none.
 pub struct Report {
     pub account: Account,
     pub refusal: u32,
     pub line: u32,
+}
+
+// What a line is to the program: refused for its form or its label, or a request.
+pub enum Meaning {
+    Malformed,
+    Unknown,
+    Asks(Request),
 }
 
 // The setup of every trace.
@@ -32,41 +41,54 @@ pub fn trace_setup() -> Setup
 fn processor_at(address: u32) -> u32
     ensures { λ r. ⌜ r ≡ processorAt address ⌝ }
 {
-    address / 16777216
+    address / PROCESSOR_STRIDE
 }
 
 // The low 24 bits of an address, divided by 4.
 fn variable_at(address: u32) -> Variable
     ensures { λ r. ⌜ r ≡ variableAt address ⌝ }
 {
-    Variable(address % 16777216 / 4)
+    Variable(address % PROCESSOR_STRIDE / 4)
 }
 
-// The request of a line: label 1 writes the line's number, another reads.
-pub fn request_at(number: u32, label: u32, address: u32) -> Request
-    ensures { λ r. ⌜ r ≡ requestAt number label address ⌝ }
+// A read at an address.
+fn read_at(address: u32) -> Request
+    ensures { λ r. ⌜ r ≡ readAt address ⌝ }
 {
-    let processor = processor_at(address);
-    let variable = variable_at(address);
-    if label == 1 {
-        return Request {
-            processor: processor,
-            operation: Operation::Write(variable, number),
-        };
-    }
     Request {
-        processor: processor,
-        operation: Operation::Read(variable),
+        processor: processor_at(address),
+        operation: Operation::Read(variable_at(address)),
     }
 }
 
-// 7, 3, 4 and 22, in this order. The number of the line plays no part.
-pub fn line_refusal(requests: u32, label: u32, address: u32) -> u32
-    ensures { λ r. ⌜ ((n : ℕ) → r ≡ lineRefusal requests n (Parsed.Labelled label address)) ⌝ }
+// A write at an address.
+fn write_at(address: u32, value: u32) -> Request
+    ensures { λ r. ⌜ r ≡ writeAt address value ⌝ }
 {
-    if label > 2 {
-        return protocol::UNKNOWN_LABEL;
+    Request {
+        processor: processor_at(address),
+        operation: Operation::Write(variable_at(address), value),
     }
-    let setup = trace_setup();
-    setup.request_refusal(requests, request_at(0, label, address))
+}
+
+// The table of labels: what line `number` asks for by its label and address.
+fn interpret_label(number: u32, label: u32, address: u32) -> Meaning
+    ensures { λ r. ⌜ r ≡ interpretedLabel number label address ⌝ }
+{
+    match label {
+        0 => Meaning::Asks(read_at(address)),
+        1 => Meaning::Asks(write_at(address, number)),
+        2 => Meaning::Asks(read_at(address)),
+        _ => Meaning::Unknown,
+    }
+}
+
+// What line `number` asks for.
+pub fn interpret(number: u32, parsed: Parsed) -> Meaning
+    ensures { λ r. ⌜ r ≡ interpreted number parsed ⌝ }
+{
+    match parsed {
+        Parsed::Malformed => Meaning::Malformed,
+        Parsed::Labelled(label, address) => interpret_label(number, label, address),
+    }
 }

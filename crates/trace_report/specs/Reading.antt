@@ -9,9 +9,9 @@ use lib.Dec.{eqb}
 use lib.ListN.{length, take}
 use Rattle.io.specs.Counts.{clamped}
 use Rattle.protocol.specs.Refusals.{noRefusal}
-use Rattle.protocol.specs.Tables.{fresh}
+use Rattle.protocol.specs.Tables.{Tables, fresh}
 use Rattle.trace_lines.specs.Trace.{traceSetup, report}
-use Rattle.trace_count.specs.Counting.{Stage, stage, freshCount}
+use Rattle.trace_count.specs.Counting.{CountStage, countStage, freshCount}
 use Rattle.trace.specs.Feeding.{fed}
 use Rattle.trace_report.specs.declared.Progress.{Progress}
 use Rattle.trace_report.specs.declared.Answer.{Answer}
@@ -40,28 +40,28 @@ brought d = cond (isLast d) [] (take (clamped (d .got) (length (d .buffer))) (d 
 pub record Reading : Type 0 where
   pub going : Bool
   pub failed : Bool
-  pub stage : Stage
+  pub stage : CountStage
 
-abbrev pub reading : Progress → List ℕ → List ℕ → List ℕ → List ℕ → List ℕ → Reading
-reading p b n m w g = record { going = p .going; failed = p .failed; stage = stage (p .count) b n m w g }
+abbrev pub reading : Progress → Tables → Reading
+reading p t = record { going = p .going; failed = p .failed; stage = countStage (p .count) t }
 
 -- reading goes on until a line is refused
-abbrev pub counted : Stage → Reading
+abbrev pub counted : CountStage → Reading
 counted x = record { going = eqb (x .count .refusal) noRefusal; failed = false; stage = x }
 
 -- it stops where a read brings no byte, and has failed if the read has
-unfoldable pub afterRead : Stage → Read → Reading
+unfoldable pub afterRead : CountStage → Read → Reading
 afterRead x d = cond (isLast d) (record { going = false; failed = ltZ (d .got) (pos 0); stage = x }) (counted (fed x (brought d)))
 
 -- one read, whatever it answered, led from x to y and left this buffer
-pub record Took (x : Stage) (buffer : List ℕ) (y : Reading) : Type 0 where
+pub record Took (x : CountStage) (buffer : List ℕ) (y : Reading) : Type 0 where
   pub got : ℤ
   pub is : y ≡ afterRead x (readOf got buffer)
 
 -- ---- all reads, the last one first
 
 abbrev pub afterReads : List Read → Reading
-afterReads [] = record { going = true; failed = false; stage = record { count = freshCount; tables = fresh traceSetup } }
+afterReads [] = record { going = true; failed = false; stage = countStage freshCount (fresh traceSetup) }
 afterReads (d ∷ ds) = afterRead (afterReads ds .stage) d
 
 abbrev pub allBrought : List Read → List ℕ

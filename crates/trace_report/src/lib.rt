@@ -1,14 +1,23 @@
 // Reads a din trace on standard input and prints what it came to.
 ghost use mathlib.Core.Path.{_≡_};
-ghost use Rattle.protocol.specs.Tables.{tables, fresh};
+ghost use Rattle.protocol.specs.Tables.{fresh};
+ghost use Rattle.protocol.specs.Lent.{lent, before, after};
 ghost use Rattle.trace_lines.specs.Trace.{traceSetup};
-ghost use Rattle.trace_count.specs.Counting.{stage, Ready};
+ghost use Rattle.trace_count.specs.Counting.{countStage, Countable};
 ghost use Rattle.trace_report.specs.Reading.{readOf, reading, afterRead, Took, Reached, Reported};
 use libc::STDERR_FILENO;
 use libc::STDIN_FILENO;
 use libc::STDOUT_FILENO;
 use trace_count::Count;
 use trace_lines::Report;
+use trace_text::TEXT_WIDTH;
+
+// The lengths of the tables of the setup.
+const SLOTS: usize = 32;
+
+const WORDS: usize = 128;
+
+const VARIABLES: usize = 256;
 
 // A trace after a read: whether to read on, whether a read failed, and what was counted.
 struct Progress {
@@ -28,9 +37,9 @@ fn count_read(
     words: &mut [u32],
     memory: &mut [u32],
 ) -> Progress
-    requires { ⌜ Ready (stage count (now blocks) (now counters) (now marks) (now words) (now memory)) ⌝ }
-    ensures { λ r. ⌜ reading r (now (blocks .exit)) (now (counters .exit)) (now (marks .exit)) (now (words .exit)) (now (memory .exit))
-        ≡ afterRead (stage count (now (blocks .entry)) (now (counters .entry)) (now (marks .entry)) (now (words .entry)) (now (memory .entry))) (readOf got (now (buffer .entry))) ⌝ }
+    requires { ⌜ Countable (countStage count (lent blocks counters marks words memory)) ⌝ }
+    ensures { λ r. ⌜ reading r (after blocks counters marks words memory)
+        ≡ afterRead (countStage count (before blocks counters marks words memory)) (readOf got (now (buffer .entry))) ⌝ }
 {
     if got <= 0 {
         return Progress {
@@ -59,9 +68,9 @@ fn read_some(
     words: &mut [u32],
     memory: &mut [u32],
 ) -> Progress
-    requires { ⌜ Ready (stage count (now blocks) (now counters) (now marks) (now words) (now memory)) ⌝ }
-    ensures { λ r. ⌜ Took (stage count (now (blocks .entry)) (now (counters .entry)) (now (marks .entry)) (now (words .entry)) (now (memory .entry))) (now (buffer .exit))
-        (reading r (now (blocks .exit)) (now (counters .exit)) (now (marks .exit)) (now (words .exit)) (now (memory .exit))) ⌝ }
+    requires { ⌜ Countable (countStage count (lent blocks counters marks words memory)) ⌝ }
+    ensures { λ r. ⌜ Took (countStage count (before blocks counters marks words memory)) (now (buffer .exit))
+        (reading r (after blocks counters marks words memory)) ⌝ }
 {
     let got = libc::read(STDIN_FILENO, buffer);
     count_read(got, count, &*buffer, blocks, counters, marks, words, memory)
@@ -76,8 +85,8 @@ fn read_all(
     words: &mut [u32],
     memory: &mut [u32],
 ) -> Progress
-    requires { ⌜ tables (now blocks) (now counters) (now marks) (now words) (now memory) ≡ fresh traceSetup ⌝ }
-    ensures { λ r. ⌜ Reached (reading r (now (blocks .exit)) (now (counters .exit)) (now (marks .exit)) (now (words .exit)) (now (memory .exit))) ⌝ }
+    requires { ⌜ lent blocks counters marks words memory ≡ fresh traceSetup ⌝ }
+    ensures { λ r. ⌜ Reached (reading r (after blocks counters marks words memory)) ⌝ }
 {
     let mut at = Progress {
         going: true,
@@ -109,7 +118,7 @@ fn read_report(
     words: &mut [u32],
     memory: &mut [u32],
 ) -> Answer
-    requires { ⌜ tables (now blocks) (now counters) (now marks) (now words) (now memory) ≡ fresh traceSetup ⌝ }
+    requires { ⌜ lent blocks counters marks words memory ≡ fresh traceSetup ⌝ }
     ensures { λ r. ⌜ Reported r ⌝ }
 {
     let mut buffer = io::large_buffer();
@@ -131,7 +140,7 @@ fn tell(answer: Answer) {
         );
         return;
     }
-    let mut text = [0u8; 192];
+    let mut text = [0u8; TEXT_WIDTH];
     let length = trace_text::render(answer.report, &mut text);
     io::write_all(STDOUT_FILENO, &text[..length]);
 }
@@ -140,11 +149,11 @@ fn tell(answer: Answer) {
 pub fn run() -> Answer
     ensures { λ r. ⌜ Reported r ⌝ }
 {
-    let mut blocks = [0u32; 32];
-    let mut counters = [0u32; 32];
-    let mut marks = [0u32; 32];
-    let mut words = [0u32; 128];
-    let mut memory = [0u32; 256];
+    let mut blocks = [0u32; SLOTS];
+    let mut counters = [0u32; SLOTS];
+    let mut marks = [0u32; SLOTS];
+    let mut words = [0u32; WORDS];
+    let mut memory = [0u32; VARIABLES];
     let answer = read_report(
         &mut blocks,
         &mut counters,

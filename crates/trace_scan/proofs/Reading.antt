@@ -9,12 +9,13 @@ use lib.ListN.{length, drop, getD}
 use lib.Seq.{drop-cons, drop-length}
 use lib.Dec.{leb, ltb}
 use borrow.Author.Tests.{lt-ltb, le-ltb, le-leb, lt-leb, ltb-true, ltb-false}
-use Rattle.trace_din.specs.Lines.{isDigit, isBlank, isGap, hexValue, isHex, leading, behind, hexNumber, ends, addressed, separated, parsedLine, parsed}
+use Rattle.trace_din.specs.Lines.{isDigit, isBlank, isGap, hexValue, isHex, leading, behind, hexNumber, ends, addressDigits, addressed, separated, parsedLine, lineLimit, parsed}
 use Rattle.trace_din.proofs.Leading.{shifted-fits, hex-lt}
 use Rattle.trace_scan.specs.Automaton.{afterBlanks, afterDigits, scannedByte, newLine, withByte, withBytes, scanParsed}
 use Rattle.trace_scan.specs.declared.Scan.{Scan}
 use Rattle.trace_scan.specs.declared.Scan.the-variants.{Start, Label, Blanks, Digits, Rest, Bad}
 use Rattle.trace_scan.specs.declared.Line.{Line}
+use Rattle.trace_din.specs.declared.Parsed.{Parsed}
 use Rattle.trace_din.specs.declared.Parsed.the-variants.{Malformed, Labelled}
 
 -- the bytes of a line, its width apart
@@ -35,47 +36,50 @@ bad-stays (b ∷ l) = bad-stays l
 -- ---- the digits
 
 -- what is parsed from here on, where n digits made v
+abbrev digitsParsed : ℕ → ℕ → ℕ → List ℕ → Parsed
+digitsParsed d n v l = cond (leb (n + length (leading isHex l)) addressDigits && ends (behind isHex l)) (Labelled d (hexNumber v (leading isHex l))) Malformed
+
 abbrev Digits-law : List ℕ → Type 0
 Digits-law l =
-    (d n v : ℕ) → n ≤ 8 → v < 16 ^ n
+    (d n v : ℕ) → n ≤ addressDigits → v < 16 ^ n
     → scanParsed (scanned (Digits d n v) l)
-    ≡ cond (leb (n + length (leading isHex l)) 8 && ends (behind isHex l)) (Labelled d (hexNumber v (leading isHex l))) Malformed
+    ≡ digitsParsed d n v l
 
 digits-none : Digits-law []
 unfolding scanParsed
-digits-none d n v hn hv = simp (le-leb (n + 0) 8 (omega arith))
+digits-none d n v hn hv = simp (le-leb (n + 0) addressDigits (omega arith))
 
-digit-taken : (b : ℕ) (l : List ℕ) → Digits-law l → isHex b ≡ true → (d n v : ℕ) → n < 8 → v < 16 ^ n
+digit-taken : (b : ℕ) (l : List ℕ) → Digits-law l → isHex b ≡ true → (d n v : ℕ) → n < addressDigits → v < 16 ^ n
     → scanParsed (scanned (Digits d n v) (b ∷ l))
-    ≡ cond (leb (n + length (leading isHex (b ∷ l))) 8 && ends (behind isHex (b ∷ l))) (Labelled d (hexNumber v (leading isHex (b ∷ l)))) Malformed
+    ≡ digitsParsed d n v (b ∷ l)
 unfolding scannedByte afterDigits
 digit-taken b l law h d n v hn hv =
     let fit = shifted-fits n v (hexValue b) hn hv (hex-lt b h) in
     let m : n + 1 + length (leading isHex l) ≡ n + suc (length (leading isHex l)) = omega arith in
-    simp (h, lt-ltb n 8 hn, fit .0, sym m) (law d (n + 1) (v * 16 + hexValue b) (omega arith) (fit .1))
+    simp (h, lt-ltb n addressDigits hn, fit .0, sym m) (law d (n + 1) (v * 16 + hexValue b) (omega arith) (fit .1))
 
-digit-over : (b : ℕ) (l : List ℕ) → isHex b ≡ true → (d n v : ℕ) → 8 ≤ n
+digit-over : (b : ℕ) (l : List ℕ) → isHex b ≡ true → (d n v : ℕ) → addressDigits ≤ n
     → scanParsed (scanned (Digits d n v) (b ∷ l))
-    ≡ cond (leb (n + length (leading isHex (b ∷ l))) 8 && ends (behind isHex (b ∷ l))) (Labelled d (hexNumber v (leading isHex (b ∷ l)))) Malformed
+    ≡ digitsParsed d n v (b ∷ l)
 unfolding scannedByte afterDigits scanParsed
 digit-over b l h d n v hn =
-    let m : leb (n + suc (length (leading isHex l))) 8 ≡ false = lt-leb (n + suc (length (leading isHex l))) 8 (omega arith) in
-    simp (h, le-ltb n 8 hn, m) (ap scanParsed (bad-stays l))
+    let m : leb (n + suc (length (leading isHex l))) addressDigits ≡ false = lt-leb (n + suc (length (leading isHex l))) addressDigits (omega arith) in
+    simp (h, le-ltb n addressDigits hn, m) (ap scanParsed (bad-stays l))
 
-digits-end : (b : ℕ) (l : List ℕ) → isHex b ≡ false → (e : Bool) → isGap b ≡ e → (d n v : ℕ) → n ≤ 8
+digits-end : (b : ℕ) (l : List ℕ) → isHex b ≡ false → (e : Bool) → isGap b ≡ e → (d n v : ℕ) → n ≤ addressDigits
     → scanParsed (scanned (Digits d n v) (b ∷ l))
-    ≡ cond (leb (n + length (leading isHex (b ∷ l))) 8 && ends (behind isHex (b ∷ l))) (Labelled d (hexNumber v (leading isHex (b ∷ l)))) Malformed
+    ≡ digitsParsed d n v (b ∷ l)
 unfolding scannedByte afterDigits scanParsed
-digits-end b l h true g d n v hn = simp (h, g, le-leb (n + 0) 8 (omega arith)) (ap scanParsed (rest-stays d v l))
-digits-end b l h false g d n v hn = simp (h, g, le-leb (n + 0) 8 (omega arith)) (ap scanParsed (bad-stays l))
+digits-end b l h true g d n v hn = simp (h, g, le-leb (n + 0) addressDigits (omega arith)) (ap scanParsed (rest-stays d v l))
+digits-end b l h false g d n v hn = simp (h, g, le-leb (n + 0) addressDigits (omega arith)) (ap scanParsed (bad-stays l))
 
 digits-more : (b : ℕ) (l : List ℕ) → Digits-law l → (e : Bool) → isHex b ≡ e → Digits-law (b ∷ l)
 digits-more b l law false h d n v hn hv = digits-end b l h (isGap b) refl d n v hn
-digits-more b l law true h d n v hn hv = go (ltb n 8) refl
+digits-more b l law true h d n v hn hv = go (ltb n addressDigits) refl
   where
-    go : (f : Bool) → ltb n 8 ≡ f
+    go : (f : Bool) → ltb n addressDigits ≡ f
         → scanParsed (scanned (Digits d n v) (b ∷ l))
-        ≡ cond (leb (n + length (leading isHex (b ∷ l))) 8 && ends (behind isHex (b ∷ l))) (Labelled d (hexNumber v (leading isHex (b ∷ l)))) Malformed
+        ≡ digitsParsed d n v (b ∷ l)
     go true f = digit-taken b l law h d n v (ltb-true _ _ f) hv
     go false f = digit-over b l h d n v (ltb-false _ _ f)
 
@@ -96,7 +100,7 @@ address-start d b l k true h =
     let z : hexValue b ≡ 0 + hexValue b = omega arith in
     let law = simp m at (digits l d 1 (hexValue b) (omega arith) (hex-lt b h)) in
     simp (k, h, some (length (leading isHex l)))
-    (law ∙ ap (λ (v : ℕ). cond (leb (suc (length (leading isHex l))) 8 && ends (behind isHex l)) (Labelled d (hexNumber v (leading isHex l))) Malformed) z)
+    (law ∙ ap (λ (v : ℕ). cond (leb (suc (length (leading isHex l))) addressDigits && ends (behind isHex l)) (Labelled d (hexNumber v (leading isHex l))) Malformed) z)
 address-start d b l k false h = simp (k, h) (ap scanParsed (bad-stays l))
 
 blanks-more : (d b : ℕ) (l : List ℕ) → scanParsed (scanned (Blanks d) l) ≡ addressed d (behind isBlank l) → (e : Bool) → isBlank b ≡ e
@@ -135,31 +139,31 @@ line (b ∷ l) = digit-first b l (isDigit b) refl
 
 -- ---- the width
 
--- past 80 bytes a line is malformed
+-- past the limit a line is malformed
 abbrev Width-law : List ℕ → Type 0
-Width-law l = (w : ℕ) (x : Scan) → w ≤ 80 → withBytes (record { width = w; scan = x }) l .scan ≡ cond (leb (w + length l) 80) (scanned x l) Bad
+Width-law l = (w : ℕ) (x : Scan) → w ≤ lineLimit → withBytes (record { width = w; scan = x }) l .scan ≡ cond (leb (w + length l) lineLimit) (scanned x l) Bad
 
-width-more : (b : ℕ) (l : List ℕ) → Width-law l → (w : ℕ) (x : Scan) → w ≤ 80 → (e : Bool) → ltb w 80 ≡ e
-    → withBytes (record { width = w; scan = x }) (b ∷ l) .scan ≡ cond (leb (w + suc (length l)) 80) (scanned (scannedByte x b) l) Bad
+width-more : (b : ℕ) (l : List ℕ) → Width-law l → (w : ℕ) (x : Scan) → w ≤ lineLimit → (e : Bool) → ltb w lineLimit ≡ e
+    → withBytes (record { width = w; scan = x }) (b ∷ l) .scan ≡ cond (leb (w + suc (length l)) lineLimit) (scanned (scannedByte x b) l) Bad
 unfolding withByte
 width-more b l law w x hw true e =
     let m : w + 1 + length l ≡ w + suc (length l) = omega arith in
-    simp (e, sym m) (law (w + 1) (scannedByte x b) (omega (arith, ltb-true w 80 e)))
+    simp (e, sym m) (law (w + 1) (scannedByte x b) (omega (arith, ltb-true w lineLimit e)))
 width-more b l law w x hw false e =
-    let m : leb (w + suc (length l)) 80 ≡ false = lt-leb (w + suc (length l)) 80 (omega (arith, ltb-false w 80 e)) in
-    simp (e, m) (law 80 Bad (omega arith) ∙ same (leb (80 + length l) 80))
+    let m : leb (w + suc (length l)) lineLimit ≡ false = lt-leb (w + suc (length l)) lineLimit (omega (arith, ltb-false w lineLimit e)) in
+    simp (e, m) (law lineLimit Bad (omega arith) ∙ same (leb (lineLimit + length l) lineLimit))
   where
     same : (c : Bool) → cond c (scanned Bad l) Bad ≡ Bad
     same true = bad-stays l
     same false = refl
 
 widths : (l : List ℕ) → Width-law l
-widths [] = λ w x hw. simp (le-leb (w + 0) 80 (omega arith))
-widths (b ∷ l) = λ w x hw. width-more b l (widths l) w x hw (ltb w 80) refl
+widths [] = λ w x hw. simp (le-leb (w + 0) lineLimit (omega arith))
+widths (b ∷ l) = λ w x hw. width-more b l (widths l) w x hw (ltb w lineLimit) refl
 
 -- ---- what `Line` gives
 
-within-width : (l : List ℕ) (e : Bool) → leb (length l) 80 ≡ e → scanParsed (cond (leb (length l) 80) (scanned Start l) Bad) ≡ parsed l
+within-width : (l : List ℕ) (e : Bool) → leb (length l) lineLimit ≡ e → scanParsed (cond (leb (length l) lineLimit) (scanned Start l) Bad) ≡ parsed l
 unfolding parsed scanParsed
 within-width l true e = simp e (line l)
 within-width l false e = simp e
@@ -168,7 +172,7 @@ within-width l false e = simp e
 pub read-parsed : (l : List ℕ) → scanParsed (withBytes newLine l .scan) ≡ parsed l
 read-parsed l =
     let z : 0 + length l ≡ length l = omega arith in
-    ap scanParsed (simp z at (widths l 0 Start (omega arith))) ∙ within-width l (leb (length l) 80) refl
+    ap scanParsed (simp z at (widths l 0 Start (omega arith))) ∙ within-width l (leb (length l) lineLimit) refl
 
 -- one byte more at the end of a line
 pub read-more : (x : Line) (l : List ℕ) (b : ℕ) → withBytes x (l ++ b ∷ []) ≡ withByte (withBytes x l) b
@@ -176,13 +180,13 @@ read-more x [] b = refl
 read-more x (a ∷ l) b = read-more (withByte x a) l b
 
 -- a line that has a byte has a width
-width-positive : (x : Line) (b : ℕ) (e : Bool) → ltb (x .width) 80 ≡ e → 0 < withByte x b .width
+width-positive : (x : Line) (b : ℕ) (e : Bool) → ltb (x .width) lineLimit ≡ e → 0 < withByte x b .width
 unfolding withByte
 width-positive x b true e = simp e (omega arith)
 width-positive x b false e = simp e (omega arith)
 
 pub width-some : (x : Line) (b : ℕ) (l : List ℕ) → 0 < withBytes x (b ∷ l) .width
-width-some x b [] = width-positive x b (ltb (x .width) 80) refl
+width-some x b [] = width-positive x b (ltb (x .width) lineLimit) refl
 width-some x b (a ∷ l) = width-some (withByte x b) a l
 
 -- ---- a line that takes bytes

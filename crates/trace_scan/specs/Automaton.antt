@@ -1,9 +1,9 @@
 -- A line read byte by byte. That this gives `parsed` of the line's bytes is proved in proofs/Reading.antt.
-use Prim.Native.Nat.{ℕ, _+_, _-_, _*_, _%_}
+use Prim.Native.Nat.{ℕ, _+_, _-_}
 use mathlib.Core.Bool.{cond}
 use mathlib.Core.List.{List, [], _∷_}
 use lib.Dec.{ltb}
-use Rattle.trace_din.specs.Lines.{isDigit, isBlank, isGap, hexValue, isHex}
+use Rattle.trace_din.specs.Lines.{isDigit, isBlank, isGap, hexValue, isHex, addressDigits, lineLimit}
 use Rattle.trace_din.specs.Digits.{shifted}
 use Rattle.trace_scan.specs.declared.Scan.{Scan}
 use Rattle.trace_scan.specs.declared.Scan.the-variants.{Start, Label, Blanks, Digits, Rest, Bad}
@@ -17,7 +17,7 @@ unfoldable pub afterBlanks : ℕ → ℕ → Scan
 afterBlanks d b = cond (isBlank b) (Blanks d) (cond (isHex b) (Digits d 1 (hexValue b)) Bad)
 
 unfoldable pub afterDigits : ℕ → ℕ → ℕ → ℕ → Scan
-afterDigits d n v b = cond (isHex b) (cond (ltb n 8) (Digits d (n + 1) (shifted v (hexValue b))) Bad) (cond (isGap b) (Rest d v) Bad)
+afterDigits d n v b = cond (isHex b) (cond (ltb n addressDigits) (Digits d (n + 1) (shifted v (hexValue b))) Bad) (cond (isGap b) (Rest d v) Bad)
 
 unfoldable pub scannedByte : Scan → ℕ → Scan
 scannedByte Start b = cond (isDigit b) (Label (b - 48)) Bad
@@ -33,9 +33,9 @@ scannedByte Bad b = Bad
 abbrev pub newLine : Line
 newLine = record { width = 0; scan = Start }
 
--- the line with one byte more; past 80 bytes only that it is too long is kept
+-- the line with one byte more; past the limit only that it is too long is kept
 unfoldable pub withByte : Line → ℕ → Line
-withByte x b = cond (ltb (x .width) 80) (record { width = x .width + 1; scan = scannedByte (x .scan) b }) (record { width = 80; scan = Bad })
+withByte x b = cond (ltb (x .width) lineLimit) (record { width = x .width + 1; scan = scannedByte (x .scan) b }) (record { width = lineLimit; scan = Bad })
 
 -- the line with more bytes
 abbrev pub withBytes : Line → List ℕ → Line

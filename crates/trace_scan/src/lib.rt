@@ -1,4 +1,6 @@
 // A line of a din trace that is not whole yet. Only a few numbers are kept of it, however long it is.
+use trace_din::ADDRESS_DIGITS;
+use trace_din::LINE_LIMIT;
 use trace_din::Parsed;
 use trace_din::hex_value;
 use trace_din::is_blank;
@@ -17,7 +19,7 @@ pub enum Scan {
     Bad,
 }
 
-// A line's bytes so far, up to 80, and what they are.
+// A line's bytes so far, up to the limit, and what they are.
 pub struct Line {
     pub width: u32,
     pub scan: Scan,
@@ -62,7 +64,7 @@ fn after_digits(label: u32, count: u32, address: u32, b: u8) -> Scan
 {
     let digit = hex_value(b);
     if digit < 16 {
-        if count < 8 {
+        if count < ADDRESS_DIGITS {
             return Scan::Digits(label, count + 1, shift(address, digit));
         }
         return Scan::Bad;
@@ -118,14 +120,14 @@ impl Line {
     {
         let width = self.width;
         let scan = self.scan;
-        if width < 80 {
+        if width < LINE_LIMIT {
             return Line {
                 width: width + 1,
                 scan: scan.byte(b),
             };
         }
         Line {
-            width: 80,
+            width: LINE_LIMIT,
             scan: Scan::Bad,
         }
     }

@@ -11,7 +11,7 @@ use lib.Seq.{getD-at}
 use borrow.Author.Tests.{ltb-true, ltb-false, lt-ltb}
 use Rattle.io.specs.Digits.{digits, glyph, Fewest}
 use Rattle.protocol.proofs.Laws.{choice}
-use Rattle.trace_text.specs.Text.{places, decimal, denoted}
+use Rattle.trace_text.specs.Text.{places, numberWidth, decimal, denoted}
 
 -- ---- how many digits
 
@@ -64,8 +64,7 @@ length-digits : (k n : ℕ) → length (digits 10 k n) ≡ k
 length-digits zero n = refl
 length-digits (suc k) n = length-append (digits 10 k (n / 10)) _ ∙ omega (arith, length-digits k (n / 10))
 
--- at most 20
-pub decimal-length : (n : ℕ) → length (decimal n) ≤ 20
+pub decimal-length : (n : ℕ) → length (decimal n) ≤ numberWidth
 unfolding decimal
 decimal-length n = omega (arith, length-digits (places 19 n) n, places-most 19 n)
 

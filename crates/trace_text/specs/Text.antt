@@ -6,7 +6,9 @@ use mathlib.Core.List.{List, [], _∷_, _++_}
 use lib.Dec.{ltb}
 use lib.ListN.{length, take}
 use Rattle.io.specs.Digits.{digits}
+use Rattle.protocol.specs.Accounts.{cyclesOf}
 use Rattle.protocol.specs.declared.Account.{Account}
+use Rattle.trace_din.specs.Lines.{newline}
 use Rattle.trace_lines.specs.declared.Report.{Report}
 
 -- ---- numbers
@@ -16,7 +18,11 @@ abbrev pub places : ℕ → ℕ → ℕ
 places zero n = 1
 places (suc k) n = cond (ltb n 10) 1 (suc (places k (n / 10)))
 
--- a number below 2^64, which has at most 20 digits, in ASCII
+-- a number below 2^64 has at most 20 digits
+abbrev pub numberWidth : ℕ
+numberWidth = 20
+
+-- it in ASCII
 unfoldable pub decimal : ℕ → List ℕ
 decimal n = digits 10 (places 19 n) n
 
@@ -56,9 +62,6 @@ endedWord = 101 ∷ 110 ∷ 100 ∷ 101 ∷ 100 ∷ []
 abbrev pub blank : ℕ
 blank = 32
 
-abbrev pub newline : ℕ
-newline = 10
-
 -- a word and a number
 unfoldable pub field : List ℕ → ℕ → List ℕ
 field word n = word ++ blank ∷ decimal n
@@ -67,10 +70,6 @@ field word n = word ++ blank ∷ decimal n
 unfoldable pub line : List ℕ → ℕ → List ℕ
 line word n = field word n ++ newline ∷ []
 
--- "cycles of each kind, their sum"
-abbrev pub total : Account → ℕ
-total a = a .fetch + a .«write_back» + a .update
-
 -- "The lines are requests taken, cycles of each kind, their sum"
 unfoldable pub accountLines : Account → List ℕ
 accountLines a =
@@ -78,16 +77,31 @@ accountLines a =
     ++ line fetchWord (a .fetch)
     ++ line writeBackWord (a .«write_back»)
     ++ line updateWord (a .update)
-    ++ line totalWord (total a)
+    ++ line totalWord (cyclesOf a)
 
 -- "then refusal number and line number"
 unfoldable pub text : Report → List ℕ
 text r = accountLines (r .account) ++ line (field endedWord (r .refusal)) (r .line)
 
+-- ---- the most bytes that they are
+
+abbrev pub fieldWidth : List ℕ → ℕ
+fieldWidth word = length word + (1 + numberWidth)
+
+abbrev pub lineWidth : List ℕ → ℕ
+lineWidth word = fieldWidth word + 1
+
+abbrev pub accountWidth : ℕ
+accountWidth = lineWidth requestsWord + lineWidth fetchWord + lineWidth writeBackWord + lineWidth updateWord + lineWidth totalWord
+
+-- the buffer that a report is written into
+abbrev pub textWidth : ℕ
+textWidth = accountWidth + (fieldWidth endedWord + lineWidth [])
+
 -- ---- appending to a buffer
 
--- the first n bytes of a buffer and then s, of at most `most` bytes, are the first r bytes of what the buffer became
-pub record Appended (before : List ℕ) (n : ℕ) (s : List ℕ) (after : List ℕ) (r most : ℕ) : Type 0 where
+-- the first n bytes of the old buffer and then s, of at most `most` bytes, are the first r bytes of the new one
+pub record Appended (old : List ℕ) (n : ℕ) (s : List ℕ) (new : List ℕ) (r most : ℕ) : Type 0 where
   pub room : r ≤ n + most
-  pub inside : r ≤ length after
-  pub is : take r after ≡ take n before ++ s
+  pub inside : r ≤ length new
+  pub is : take r new ≡ take n old ++ s

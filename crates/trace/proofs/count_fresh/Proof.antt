@@ -1,21 +1,31 @@
+-- A fresh count on fresh tables can go on (`countable-first`, `countable-fed`); fed with all the bytes and finished it gives `ended` (`fed-ended`).
 use mathlib.Core.Path.{sym, ap, _∙_, subst}
-use Rattle.trace_count.specs.Counting.{Stage, Ready}
-use Rattle.trace.specs.Feeding.{fed, finished}
-use Rattle.trace.proofs.Laws.{ready-fresh, fresh-stage}
-use Rattle.trace.proofs.Feeding.{ready-fed}
-use Rattle.trace.proofs.Whole.{fed-ended}
 use borrow.Author.Needs.{needs}
+use Rattle.trace_count.specs.Counting.{CountStage, Countable}
+use Rattle.trace.specs.Feeding.{fed, finished}
+use Rattle.trace.proofs.Laws.{first-stage, countable-first}
+use Rattle.trace.proofs.Feeding.{countable-fed}
+use Rattle.trace.proofs.Whole.{fed-ended}
 use Rattle.trace.proofs.count_fresh.Statement.{statement}
 use Rattle.trace.proofs.count_fresh.Tie as tie
 
 feed-requires : tie.Need-feed-requires
-feed-requires c κs = subst Ready (sym (fresh-stage _ _ (c .before .before .before .before .before .new .ensures) (c .before .before .before .before .before .before .before .before .before .before .before .before .pre))) ready-fresh
+feed-requires c κs =
+    let made = c .before .before .before .before .before in
+    countable-first _ _ (made .new .ensures) (made .before .before .before .before .before .before .before .pre)
 
 finish-requires : tie.Need-finish-requires
-finish-requires c κs = subst Ready (sym (c .before .before .before .before .before .before .before .before .before .before .before .before .before .before .before .feed .ensures)) (ready-fed _ (c .before .before .before .before .before .before .before .before .before .before .before .before .before .before .before .before .before .before .before .before .before .before .before .before .before .before .before .before .args .bytes .now) (subst Ready (sym (fresh-stage _ _ (c .before .before .before .before .before .before .before .before .before .before .before .before .before .before .before .before .before .before .before .before .before .new .ensures) (c .before .before .before .before .before .before .before .before .before .before .before .before .before .before .before .before .before .before .before .before .before .before .before .before .before .before .before .before .pre))) ready-fresh))
+finish-requires c κs =
+    let call = c .before .before .before .before .before .before .before .before .before .before .before .before .before .before .before in
+    let made = call .before .before .before .before .before .before in
+    subst Countable (sym (call .feed .ensures)) (countable-fed _ (made .before .before .before .before .before .before .before .args .bytes .now) (countable-first _ _ (made .new .ensures) (made .before .before .before .before .before .before .before .pre)))
 
 returns : tie.Need-returns
-returns c = c .before .before .before .before .before .before .before .before .before .before .finish .ensures ∙ ap finished (c .before .before .before .before .before .before .before .before .before .before .before .before .before .before .before .before .before .before .before .before .before .before .before .before .before .before .feed .ensures ∙ ap (λ (x : Stage). fed x (c .before .before .before .before .before .before .before .before .before .before .before .before .before .before .before .before .before .before .before .before .before .before .before .before .before .before .before .before .before .before .before .before .before .before .before .before .before .before .before .args .bytes .now)) (fresh-stage _ _ (c .before .before .before .before .before .before .before .before .before .before .before .before .before .before .before .before .before .before .before .before .before .before .before .before .before .before .before .before .before .before .before .before .new .ensures) (c .before .before .before .before .before .before .before .before .before .before .before .before .before .before .before .before .before .before .before .before .before .before .before .before .before .before .before .before .before .before .before .before .before .before .before .before .before .before .before .pre))) ∙ fed-ended (c .before .before .before .before .before .before .before .before .before .before .before .before .before .before .before .before .before .before .before .before .before .before .before .before .before .before .before .before .before .before .before .before .before .before .before .before .before .before .before .args .bytes .now)
+returns c =
+    let call = c .before .before .before .before .before .before .before .before .before .before .before .before .before .before .before .before .before .before .before .before .before .before .before .before .before .before in
+    let made = call .before .before .before .before .before .before in
+    let s = made .before .before .before .before .before .before .before .args .bytes .now in
+    c .before .before .before .before .before .before .before .before .before .before .finish .ensures ∙ ap finished (call .feed .ensures ∙ ap (λ (x : CountStage). fed x s) (first-stage _ _ (made .new .ensures) (made .before .before .before .before .before .before .before .pre))) ∙ fed-ended s
 
 pub count-fresh-spec : {M : Type 1} → statement M
 count-fresh-spec =

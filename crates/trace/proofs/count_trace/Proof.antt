@@ -1,18 +1,29 @@
+-- Tables that are not started are of the wrong lengths (`not-started`); those that are started are fresh (`now-started`).
 use mathlib.Core.Path.{sym, _∙_}
-use Rattle.trace.proofs.Laws.{not-started, now-started, ended-started}
 use borrow.Author.Needs.{needs}
+use Rattle.trace.proofs.Laws.{not-started, now-started, ended-started}
 use Rattle.trace.proofs.count_trace.Statement.{statement}
 use Rattle.trace.proofs.count_trace.Tie as tie
 
 returns : tie.Need-returns
-returns c = let e = rw (c .before .before .before .before .before .before .before .before .before .before .before .before .before .before .before .before .before .trace-setup .ensures) at (c .before .before .before .before .before .before .before .before .before .before .before .start .ensures) in not-started _ _ _ _ (e .0) (e .1) (c .if1 .taken)
+returns c =
+    let call = c .before .before .before .before .before .before .before .before .before .before .before in
+    let e = rw (call .before .before .before .before .before .before .trace-setup .ensures) at (call .start .ensures) in
+    not-started _ _ _ _ (e .0) (e .1) (c .if1 .taken)
 
 count-fresh-requires : tie.Need-count-fresh-requires
-count-fresh-requires c κs = let e = rw (c .before .before .before .before .before .before .before .before .before .before .before .before .before .before .before .before .before .before .before .before .before .before .trace-setup .ensures) at (c .before .before .before .before .before .before .before .before .before .before .before .before .before .before .before .before .start .ensures) in now-started _ _ _ (e .0) (e .1) (c .before .before .before .before .before .if1 .left) .1
+count-fresh-requires c κs =
+    let one = c .before .before .before .before .before in
+    let call = one .before .before .before .before .before .before .before .before .before .before .before in
+    let e = rw (call .before .before .before .before .before .before .trace-setup .ensures) at (call .start .ensures) in
+    now-started _ _ _ (e .0) (e .1) (one .if1 .left) .1
 
 returns-2 : tie.Need-returns-2
-returns-2 c = let e = rw (c .before .before .before .before .before .before .before .before .before .before .before .before .before .before .before .before .before .before .before .before .before .before .before .before .before .before .before .before .before .before .before .before .before .trace-setup .ensures) at (c .before .before .before .before .before .before .before .before .before .before .before .before .before .before .before .before .before .before .before .before .before .before .before .before .before .before .before .start .ensures) in
-    c .before .before .before .before .before .before .before .before .before .before .count-fresh .ensures ∙ sym (ended-started _ _ (now-started _ _ _ (e .0) (e .1) (c .before .before .before .before .before .before .before .before .before .before .before .before .before .before .before .before .if1 .left) .0))
+returns-2 c =
+    let one = c .before .before .before .before .before .before .before .before .before .before .before .before .before .before .before .before in
+    let call = one .before .before .before .before .before .before .before .before .before .before .before in
+    let e = rw (call .before .before .before .before .before .before .trace-setup .ensures) at (call .start .ensures) in
+    c .before .before .before .before .before .before .before .before .before .before .count-fresh .ensures ∙ sym (ended-started _ _ (now-started _ _ _ (e .0) (e .1) (one .if1 .left) .0))
 
 pub count-trace-spec : {M : Type 1} → statement M
 count-trace-spec =

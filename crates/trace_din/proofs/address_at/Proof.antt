@@ -1,3 +1,4 @@
+-- As `blanks_end`, for hexadecimal digits, with their number kept: what is left to shift in from the place reached on gives the whole. A turn is `leads`, the end `leads-end` or `leads-not` (Leading).
 use Prim.Native.Nat.{ℕ, _+_, _-_, _≤_}
 use mathlib.Core.Path.{_≡_, refl, sym, ap, _∙_}
 use native.Mathlib.Omega.{arith}
@@ -33,13 +34,13 @@ returns : tie.Need-returns Inv-loop μ-loop
 returns c =
     let x = c .before .loop in
     let none = leads-end isHex (c .before .before .before .args .bytes .now) (x .i) (omega arith) in
-    (omega (arith, x .inv .1, ap length none), sym (x .inv .2 ∙ ap (shiftedAll (x .number)) none))
+    record { end = omega (arith, x .inv .1, ap length none); number = sym (x .inv .2 ∙ ap (shiftedAll (x .number)) none) }
 
 returns-2 : tie.Need-returns-2 Inv-loop μ-loop
 returns-2 c =
     let x = c .before .before .before .before .loop in
     let none = leads-not isHex (c .before .before .before .before .before .before .args .bytes .now) (x .i) (c .before .before .before .loop-test .taken) (not-hex _ _ (c .before .hex-value .ensures) (c .if1 .taken)) in
-    (omega (arith, x .inv .1, ap length none), sym (x .inv .2 ∙ ap (shiftedAll (x .number)) none))
+    record { end = omega (arith, x .inv .1, ap length none); number = sym (x .inv .2 ∙ ap (shiftedAll (x .number)) none) }
 
 pub address-at-spec : {M : Type 1} → statement M
 address-at-spec =

@@ -1,3 +1,4 @@
+-- A loop over the leading bytes that pass: from the place reached on they end where they end from the start on. A turn is `leads`, the end `leads-end` or `leads-not` (Leading).
 use Prim.Native.Nat.{_+_, _-_, _≤_}
 use mathlib.Core.Path.{_≡_, refl, sym, ap, _∙_}
 use native.Mathlib.Omega.{arith}

@@ -1,3 +1,4 @@
+-- Each return is one branch of `hexValue`: the tests before it, as they came out.
 use borrow.Author.Tests.{lt-ltb, le-ltb, le-leb, lt-leb}
 use Rattle.trace_din.specs.Lines.{hexValue}
 use borrow.Author.Needs.{needs}

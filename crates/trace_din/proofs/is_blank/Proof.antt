@@ -1,3 +1,4 @@
+-- The two tests of `isBlank`, in its order.
 use borrow.Author.Tests.{eq-eqb, ne-eqb}
 use Rattle.trace_din.specs.Lines.{isBlank}
 use Rattle.trace_din.proofs.is_blank.Statement.{statement}

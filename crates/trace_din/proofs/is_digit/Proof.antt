@@ -1,3 +1,4 @@
+-- The two tests of `isDigit`, in its order.
 use Rattle.trace_din.specs.Lines.{isDigit}
 use borrow.Author.Tests.{lt-ltb, le-ltb}
 use Rattle.trace_din.proofs.is_digit.Statement.{statement}

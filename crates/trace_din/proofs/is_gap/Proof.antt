@@ -1,3 +1,4 @@
+-- A blank by `is_blank`, or a carriage return: the two tests of `isGap`.
 use mathlib.Core.Path.{sym, _∙_}
 use Rattle.trace_din.specs.Lines.{isGap}
 use borrow.Author.Needs.{needs}

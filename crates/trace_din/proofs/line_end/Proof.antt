@@ -1,3 +1,4 @@
+-- As `blanks_end`, for bytes that are no newline: a turn is `leads`, the end `leads-end` or `leads-not` (Leading).
 use Prim.Native.Nat.{_+_, _-_, _≤_}
 use mathlib.Core.Path.{_≡_, refl, ap}
 use native.Mathlib.Omega.{arith}

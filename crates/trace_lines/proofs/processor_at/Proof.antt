@@ -1,3 +1,4 @@
+-- By the definition `processorAt`.
 use mathlib.Core.Path.{refl}
 use Rattle.trace_lines.specs.Trace.{processorAt}
 use Rattle.trace_lines.proofs.processor_at.Statement.{statement}

@@ -1,3 +1,4 @@
+-- By the definition `variableAt`.
 use mathlib.Core.Path.{refl}
 use Rattle.trace_lines.specs.Trace.{variableAt}
 use Rattle.trace_lines.proofs.variable_at.Statement.{statement}

@@ -1,6 +1,8 @@
+-- A read that brought no byte ends the reading (`read-none`); one that brought bytes is fed (`read-bytes`).
 use mir.Facts.{toZ-ofZ}
 use denote.Ref.{now}
-use Rattle.trace_count.specs.Counting.{stage}
+use Rattle.protocol.specs.Lent.{lent}
+use Rattle.trace_count.specs.Counting.{countStage}
 use Rattle.trace_report.proofs.Laws.{read-none, read-bytes}
 use borrow.Author.Needs.{needs}
 use Rattle.trace_report.proofs.count_read.Statement.{statement}
@@ -8,13 +10,17 @@ use Rattle.trace_report.proofs.count_read.Tie as tie
 
 returns : tie.Need-returns
 returns c =
-    let a = c .before .before .before .before .before .before .before .args in
-    read-none (stage (a .count) (now (a .blocks)) (now (a .counters)) (now (a .marks)) (now (a .words)) (now (a .memory))) (now (a .buffer)) (a .got) _ (toZ-ofZ (c .before .before .before .before .before .before .before .fits .got)) (c .if1 .taken)
+    let start = c .before .before .before .before .before .before .before in
+    let a = start .args in
+    read-none (countStage (a .count) (lent (a .blocks) (a .counters) (a .marks) (a .words) (a .memory))) (now (a .buffer)) (a .got) _ (toZ-ofZ (start .fits .got)) (c .if1 .taken)
 
 returns-2 : tie.Need-returns-2
 returns-2 c =
-    let a = c .before .before .before .before .before .before .before .before .before .before .before .before .before .before .before .before .before .before .before .before .before .before .before .before .before .args in
-    read-bytes (stage (a .count) (now (a .blocks)) (now (a .counters)) (now (a .marks)) (now (a .words)) (now (a .memory))) (now (a .buffer)) (a .got) _ (toZ-ofZ (c .before .before .before .before .before .before .before .before .before .before .before .before .before .before .before .before .before .before .before .before .before .before .before .before .before .fits .got)) (c .before .before .before .before .before .before .before .before .before .before .before .before .before .before .before .before .before .count .result) _ (c .before .before .before .before .before .before .before .before .before .before .before .before .before .before .before .before .before .before .if1 .left) (c .before .before .before .before .before .before .before .before .before .before .before .before .before .before .before .before .before .count .ensures .1) (c .before .before .before .before .before .before .before .before .before .before .feed .ensures)
+    let call = c .before .before .before .before .before .before .before .before .before .before in
+    let bytes = call .before .before .before .before .before .before .before in
+    let start = bytes .before .before .before .before .before .before .before .before in
+    let a = start .args in
+    read-bytes (countStage (a .count) (lent (a .blocks) (a .counters) (a .marks) (a .words) (a .memory))) (now (a .buffer)) (a .got) _ (toZ-ofZ (start .fits .got)) (bytes .count .result) _ (bytes .before .if1 .left) (bytes .count .ensures .1) (call .feed .ensures)
 
 pub count-read-spec : {M : Type 1} → statement M
 count-read-spec =

@@ -1,14 +1,17 @@
+-- The count that the reads reached can be finished (`countable-reached`), and what it reports is the report of all their bytes (`reached-reported`).
 use mathlib.Core.Path.{refl}
-use Rattle.trace_report.proofs.Laws.{reached-ready, reached-reported}
+use Rattle.trace_report.proofs.Laws.{countable-reached, reached-reported}
 use borrow.Author.Needs.{needs}
 use Rattle.trace_report.proofs.read_report.Statement.{statement}
 use Rattle.trace_report.proofs.read_report.Tie as tie
 
 finish-requires : tie.Need-finish-requires
-finish-requires c κs = reached-ready _ (c .before .before .before .before .before .before .before .before .before .before .before .before .before .before .before .before .before .read-all .ensures)
+finish-requires c κs = countable-reached _ (c .before .before .before .before .before .before .before .before .before .before .before .before .before .before .before .before .before .read-all .ensures)
 
 returns : tie.Need-returns
-returns c = reached-reported _ _ _ (c .before .before .before .before .before .before .before .before .before .before .before .before .before .before .before .before .before .before .before .before .before .before .before .before .before .before .before .before .read-all .ensures) refl (c .before .before .before .before .before .before .before .before .before .before .finish .ensures)
+returns c =
+    let call = c .before .before .before .before .before .before .before .before .before .before in
+    reached-reported _ _ _ (call .before .before .before .before .before .before .before .before .before .before .before .before .before .before .before .before .before .before .read-all .ensures) refl (call .finish .ensures)
 
 pub read-report-spec : {M : Type 1} → statement M
 read-report-spec =

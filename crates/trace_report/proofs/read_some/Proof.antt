@@ -1,3 +1,4 @@
+-- Whatever the read answered, `count_read` says what it came to.
 use borrow.Author.Needs.{needs}
 use Rattle.trace_report.proofs.read_some.Statement.{statement}
 use Rattle.trace_report.proofs.read_some.Tie as tie

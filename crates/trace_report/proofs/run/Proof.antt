@@ -1,3 +1,4 @@
+-- The five arrays of zeros are the fresh tables of the setup, by computing.
 use mathlib.Core.Path.{refl}
 use Rattle.protocol.specs.Board.{slots}
 use Rattle.protocol.specs.Tables.{fresh}

@@ -1,3 +1,4 @@
+-- Each return is one case of `scannedByte` after the label: a blank, or none.
 use mathlib.Core.Path.{sym, _∙_}
 use Rattle.trace_scan.specs.Automaton.{scannedByte}
 use borrow.Author.Needs.{needs}

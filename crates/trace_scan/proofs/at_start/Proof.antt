@@ -1,3 +1,4 @@
+-- Each return is one case of `scannedByte` at the start: a digit is the label.
 use borrow.Author.Tests.{lt-ltb, le-ltb, le-leb, lt-leb}
 use Rattle.trace_din.specs.Lines.{isDigit}
 use Rattle.trace_scan.specs.Automaton.{scannedByte}

@@ -1,3 +1,4 @@
+-- The sum, as `cyclesOf` has it. Each of three u32 fits, and so does their sum.
 use mathlib.Core.Path.{refl}
 use borrow.Author.Needs.{needs}
 use Rattle.trace_text.proofs.cycles.Statement.{statement}

@@ -1,15 +1,17 @@
+-- A copy, byte by byte: the invariant is `paste` of the bytes so far. A turn is `copy-more`, the end `copy-done` (Copying).
 use borrow.Author.Needs.{needs}
 use Prim.Native.Nat.{_≤_, _-_}
 use mathlib.Core.Path.{_≡_}
 use lib.ListN.{length}
 use denote.Ref.{now}
 use lib.Seq.{paste, paste-zero}
+use Rattle.trace_text.specs.Text.{textWidth}
 use Rattle.trace_text.proofs.Copying.{copy-more, copy-done}
 use Rattle.trace_text.proofs.put.Statement.{statement}
 use Rattle.trace_text.proofs.put.Tie as tie
 
 abbrev Inv-loop : tie.InvT-loop
-Inv-loop bytes at all₀ i₀ all i = (i ≤ length bytes) × (all ≡ paste all₀ at bytes i) × (length all ≡ 192) × (length all₀ ≡ 192)
+Inv-loop bytes at all₀ i₀ all i = (i ≤ length bytes) × (all ≡ paste all₀ at bytes i) × (length all ≡ textWidth) × (length all₀ ≡ textWidth)
 
 abbrev μ-loop : tie.MeasureT-loop
 μ-loop bytes at all₀ i₀ all i = length bytes - i

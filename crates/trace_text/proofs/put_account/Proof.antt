@@ -1,6 +1,8 @@
+-- Five appends, one after another (`then`, Copying); the last number is the sum by the contract of `cycles`.
 use mathlib.Core.Path.{ap}
 use lib.Dec.{lit≤}
-use Rattle.trace_text.specs.Text.{line, total, totalWord, accountLines}
+use Rattle.protocol.specs.Accounts.{cyclesOf}
+use Rattle.trace_text.specs.Text.{line, totalWord, accountLines, lineWidth}
 use Rattle.trace_text.proofs.Copying.{then, also}
 use borrow.Author.Needs.{needs}
 use Rattle.trace_text.proofs.put_account.Statement.{statement}
@@ -16,7 +18,7 @@ returns c =
     let requests = fetch .before .before .before .before in
     let account = requests .before .before .before .before .args .account in
     let four = then (then (then (requests .put-line .ensures) (fetch .put-line2 .ensures)) (write-back .put-line3 .ensures)) (update .put-line4 .ensures) in
-    then four (also (line totalWord (total account)) 27 (ap (line totalWord) (sum .cycles .ensures)) (lit≤ tt) (c .put-line5 .ensures))
+    then four (also (line totalWord (cyclesOf account)) (lineWidth totalWord) (ap (line totalWord) (sum .cycles .ensures)) (lit≤ tt) (c .put-line5 .ensures))
 
 pub put-account-spec : {M : Type 1} → statement M
 put-account-spec =

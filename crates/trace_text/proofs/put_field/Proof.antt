@@ -1,3 +1,4 @@
+-- Three appends, one after another (`then`, Copying).
 use Rattle.trace_text.specs.Text.{field}
 use Rattle.trace_text.proofs.Copying.{then}
 use borrow.Author.Needs.{needs}

@@ -1,3 +1,4 @@
+-- Two appends, one after another (`then`, Copying).
 use native.Mathlib.Omega.{arith}
 use mathlib.Core.Path.{refl}
 use Rattle.trace_text.specs.Text.{line}

@@ -1,3 +1,4 @@
+-- A new line, by the contract of `Line::new`, and an account of zeros.
 use borrow.Author.Needs.{needs}
 use Rattle.trace_count.proofs.Count.new.Statement.{statement}
 use Rattle.trace_count.proofs.Count.new.Tie as tie

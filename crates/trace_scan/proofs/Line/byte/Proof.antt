@@ -1,3 +1,4 @@
+-- `withByte`: within the limit by the contract of `Scan::byte`, else too long.
 use borrow.Author.Tests.{lt-ltb, le-ltb}
 use Rattle.trace_scan.specs.Automaton.{withByte}
 use borrow.Author.Needs.{needs}

@@ -1,3 +1,4 @@
+-- A loop over bytes: what is left to take from here gives the whole. A turn is `bytes-step`, the end `bytes-end` (Reading).
 use Prim.Native.Nat.{_≤_, _-_}
 use mathlib.Core.Path.{_≡_, refl, sym, _∙_}
 use native.Mathlib.Omega.{arith}

@@ -1,3 +1,4 @@
+-- Each arm of the match is one clause of `scannedByte`, by the contract of the function that it calls.
 use Rattle.trace_scan.specs.Automaton.{scannedByte}
 use borrow.Author.Needs.{needs}
 use Rattle.trace_scan.proofs.Scan.byte.Statement.{statement}

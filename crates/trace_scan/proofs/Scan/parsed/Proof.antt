@@ -1,3 +1,4 @@
+-- Each arm of the match is one clause of `scanParsed`.
 use Rattle.trace_scan.specs.Automaton.{scanParsed}
 use borrow.Author.Needs.{needs}
 use Rattle.trace_scan.proofs.Scan.parsed.Statement.{statement}

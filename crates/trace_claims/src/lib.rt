@@ -1,0 +1,1 @@
+// Theorems about the reports of traces, in proofs/. There is no code.
