@@ -1,0 +1,27 @@
+use borrow.Author.Needs.{needs}
+use Prim.Native.Nat.{_-_}
+use mathlib.Core.Path.{_≡_}
+use lib.ListN.{length}
+use Rattle.trials_trace.proofs.entry.fill.Statement.{statement}
+use Rattle.trials_trace.proofs.entry.fill.Tie as tie
+
+abbrev Inv-loop : tie.InvT-loop
+Inv-loop to₀ case table k₀ to k = length to ≡ length to₀
+
+abbrev μ-loop : tie.MeasureT-loop
+μ-loop to₀ case table k₀ to k = 264 - k
+
+pub fill-spec : {M : Type 1} → statement M
+fill-spec =
+    tie.close
+    (tie.spec
+    Inv-loop
+    μ-loop
+    (λ c. search needs)
+    (λ c κs. search needs)
+    (λ c κs. search needs)
+    (λ c. search needs)
+    (λ c. search needs)
+    (λ c. search needs)
+    (λ c. search needs)
+    (λ c. search needs))

@@ -1,0 +1,25 @@
+use borrow.Author.Needs.{needs}
+use Prim.Native.Nat.{_≤_, _-_}
+use Rattle.trials_trace.proofs.layout.scatter.Statement.{statement}
+use Rattle.trials_trace.proofs.layout.scatter.Tie as tie
+
+abbrev Inv-loop : tie.InvT-loop
+Inv-loop cells₀ case k₀ cells k = 0 ≤ k
+
+abbrev μ-loop : tie.MeasureT-loop
+μ-loop cells₀ case k₀ cells k = 1320 - k
+
+pub scatter-spec : {M : Type 1} → statement M
+scatter-spec =
+    tie.close
+    (tie.spec
+    Inv-loop
+    μ-loop
+    (λ c. search needs)
+    (λ c. search needs)
+    (λ c κs. search needs)
+    (λ c κs. search needs)
+    (λ c. search needs)
+    (λ c. search needs)
+    (λ c. search needs)
+    (λ c. search needs))

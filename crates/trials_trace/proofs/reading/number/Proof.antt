@@ -1,0 +1,25 @@
+use borrow.Author.Needs.{needs}
+use Prim.Native.Nat.{_≤_, _-_}
+use Rattle.trials_trace.proofs.reading.number.Statement.{statement}
+use Rattle.trials_trace.proofs.reading.number.Tie as tie
+
+abbrev Inv-loop : tie.InvT-loop
+Inv-loop cells start end value₀ k₀ value k = 0 ≤ k
+
+abbrev μ-loop : tie.MeasureT-loop
+μ-loop cells start end value₀ k₀ value k = end - k
+
+pub number-spec : {M : Type 1} → statement M
+number-spec =
+    tie.close
+    (tie.spec
+    Inv-loop
+    μ-loop
+    (λ c. search needs)
+    (λ c κs. search needs)
+    (λ c κs. search needs)
+    (λ c κs. search needs)
+    (λ c. search needs)
+    (λ c. search needs)
+    (λ c. search needs)
+    (λ c. search needs))

@@ -1,0 +1,24 @@
+use borrow.Author.Needs.{needs}
+use Prim.Native.Nat.{_≤_, _-_}
+use Rattle.trials_trace.proofs.reading.read_lines.Statement.{statement}
+use Rattle.trials_trace.proofs.reading.read_lines.Tie as tie
+
+abbrev Inv-loop : tie.InvT-loop
+Inv-loop cells₀ n so-far₀ t₀ cells so-far t = 0 ≤ t
+
+abbrev μ-loop : tie.MeasureT-loop
+μ-loop cells₀ n so-far₀ t₀ cells so-far t = n - t
+
+pub read-lines-spec : {M : Type 1} → statement M
+read-lines-spec =
+    tie.close
+    (tie.spec
+    Inv-loop
+    μ-loop
+    (λ c κs. search needs)
+    (λ c. search needs)
+    (λ c κs. search needs)
+    (λ c. search needs)
+    (λ c. search needs)
+    (λ c. search needs)
+    (λ c. search needs))

@@ -1,0 +1,24 @@
+use borrow.Author.Needs.{needs}
+use Prim.Native.Nat.{_≤_, _-_}
+use Rattle.trials_trace.proofs.tables.other_holder.Statement.{statement}
+use Rattle.trials_trace.proofs.tables.other_holder.Tie as tie
+
+abbrev Inv-loop : tie.InvT-loop
+Inv-loop cells i b j₀ j = 0 ≤ j
+
+abbrev μ-loop : tie.MeasureT-loop
+μ-loop cells i b j₀ j = 4 - j
+
+pub other-holder-spec : {M : Type 1} → statement M
+other-holder-spec =
+    tie.close
+    (tie.spec
+    Inv-loop
+    μ-loop
+    (λ c. search needs)
+    (λ c κs. search needs)
+    (λ c. search needs)
+    (λ c. search needs)
+    (λ c. search needs)
+    (λ c. search needs)
+    (λ c. search needs))

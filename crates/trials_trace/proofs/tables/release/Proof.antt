@@ -1,0 +1,15 @@
+use borrow.Author.Needs.{needs}
+use Prim.Native.Nat.{_≤_, _-_}
+use Rattle.trials_trace.proofs.tables.release.Statement.{statement}
+use Rattle.trials_trace.proofs.tables.release.Tie as tie
+
+abbrev Inv-loop : tie.InvT-loop
+Inv-loop cells₀ b j₀ cells j = 0 ≤ j
+
+abbrev μ-loop : tie.MeasureT-loop
+μ-loop cells₀ b j₀ cells j = 4 - j
+
+pub release-spec : {M : Type 1} → statement M
+release-spec =
+    tie.close
+    (tie.spec Inv-loop μ-loop (λ c. search needs) (λ c κs. search needs) (λ c. search needs) (λ c. search needs) (λ c. search needs) (λ c. search needs))

@@ -1,0 +1,15 @@
+use borrow.Author.Needs.{needs}
+use Prim.Native.Nat.{_≤_, _-_}
+use Rattle.trials_trace.proofs.traces.Statement.{statement}
+use Rattle.trials_trace.proofs.traces.Tie as tie
+
+abbrev Inv-loop : tie.InvT-loop
+Inv-loop cells₀ n k₀ cells k = 0 ≤ k
+
+abbrev μ-loop : tie.MeasureT-loop
+μ-loop cells₀ n k₀ cells k = n - k
+
+pub traces-spec : {M : Type 1} → statement M
+traces-spec =
+    tie.close
+    (tie.spec Inv-loop μ-loop (λ c. search needs) (λ c κs. search needs) (λ c. search needs) (λ c. search needs) (λ c. search needs) (λ c. search needs))
