@@ -1,26 +1,24 @@
 // The entries, called over the real tables: each table is copied to an array of its own, a part of which, as long as the
 // case wants it, is lent, and then copied back. Lists are lent in the same way.
-use crate::cells::BYTES;
-use crate::cells::Cells;
-use crate::cells::ENTRIES;
-use crate::cells::REAL;
-use crate::cells::REQUESTS;
-use crate::cells::get;
-use crate::cells::put;
-use crate::cells::sum;
+use crate::layout::ENTRIES;
+use crate::layout::REAL;
+use crate::layout::REQUESTS;
 use crate::lent;
 use crate::setups;
-use crate::state;
 use host_numbers::Ran;
 use protocol::Account;
 use protocol::Block;
 use protocol::PriceAnswer;
 use protocol::Setup;
-use trace_lines::Report;
+use trials_cells::cells::Cells;
+use trials_cells::cells::get;
+use trials_cells::cells::put;
+use trials_cells::cells::sum;
+use trials_cells::state;
 ghost use Prim.Native.Nat.{_≤_};
 ghost use lib.ListN.{length};
 
-// Room for the longest table, and for a trace.
+// Room for the longest table.
 pub const ROOM: usize = 8200;
 
 pub type Table = [u32; ROOM];
@@ -204,60 +202,6 @@ fn price(cells: &mut Cells, setup: Setup, m: u32, n: u32) -> PriceAnswer {
     answer
 }
 
-fn set_byte(bytes: &mut [u8], k: u32, x: u32) {
-    let i = k as usize;
-    if i < bytes.len() {
-        bytes[i] = (x % 256) as u8;
-    }
-}
-
-fn fill_bytes(cells: &Cells, n: u32, to: &mut [u8]) {
-    let mut k = 0;
-    while k < n {
-        set_byte(to, k, get(cells, BYTES, k));
-        k += 1;
-    }
-}
-
-// The n bytes of the trace go to an array: how many of them are lent.
-fn lend_bytes(cells: &Cells, n: u32, to: &mut [u8; ROOM]) -> usize
-    ensures { λ r. ⌜ r ≤ length (now (to .exit)) ⌝ }
-{
-    fill_bytes(cells, n, to);
-    within_room(n)
-}
-
-// The trace of the first n bytes.
-fn count(cells: &mut Cells, n: u32) -> Report {
-    let view: &Cells = cells;
-    let mut blocks = [0u32; ROOM];
-    let mut counters = [0u32; ROOM];
-    let mut marks = [0u32; ROOM];
-    let mut words = [0u32; ROOM];
-    let mut memory = [0u32; ROOM];
-    let mut bytes = [0u8; ROOM];
-    let a = lend_table(view, lent::NUMBERS_TABLE, &mut blocks);
-    let b = lend_table(view, lent::COUNTERS_TABLE, &mut counters);
-    let c = lend_table(view, lent::MARKS_TABLE, &mut marks);
-    let d = lend_table(view, lent::WORDS_TABLE, &mut words);
-    let e = lend_table(view, lent::MEMORY_TABLE, &mut memory);
-    let f = lend_bytes(view, n, &mut bytes);
-    let report = trace::count_trace(
-        &bytes[..f],
-        &mut blocks[..a],
-        &mut counters[..b],
-        &mut marks[..c],
-        &mut words[..d],
-        &mut memory[..e],
-    );
-    back(cells, lent::NUMBERS_TABLE, &blocks);
-    back(cells, lent::COUNTERS_TABLE, &counters);
-    back(cells, lent::MARKS_TABLE, &marks);
-    back(cells, lent::WORDS_TABLE, &words);
-    back(cells, lent::MEMORY_TABLE, &memory);
-    report
-}
-
 fn run_answer(ran: Ran) -> Answer {
     let answer = ran.answer;
     let account = ran.account;
@@ -274,13 +218,8 @@ fn price_answer(answer: PriceAnswer) -> Answer {
     }
 }
 
-fn trace_answer(report: Report) -> Answer {
-    let account = report.account;
-    answer_of(report.refusal, report.line as usize, 0, 0, account)
-}
-
 // Calls an entry over the real tables, by its kind (module state): m is how many numbers of the entries are lent, n how
-// many numbers of the requests or bytes of the trace.
+// many numbers of the requests.
 pub(crate) fn ask(
     cells: &mut Cells,
     kind: u32,
@@ -292,8 +231,7 @@ pub(crate) fn ask(
     match kind {
         state::START => answer_of(start(cells, setup), 0, 0, 0, account),
         state::RUN => run_answer(run(cells, setup, account, n)),
-        state::PRICE => price_answer(price(cells, setup, m, n)),
-        _ => trace_answer(count(cells, n)),
+        _ => price_answer(price(cells, setup, m, n)),
     }
 }
 

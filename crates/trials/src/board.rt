@@ -1,31 +1,36 @@
 // What is known of a board: for each processor and block the counter (0: no copy), for each block who has it marked,
-// for each variable its current value, which all copies share, and its value in main memory. The largest board takes
-// 8 × 256 counters, 256 owners and 4,096 variables twice: 10,496 cells.
-use crate::cells::Cells;
-use crate::cells::FACTS;
-use crate::cells::copy;
-use crate::cells::get;
-use crate::cells::product;
-use crate::cells::put;
-use crate::cells::remainder;
-use crate::cells::sum;
-use crate::cells::wipe;
+// for each variable its current value, which all copies share, and its value in main memory. There is room for the
+// largest board.
+use crate::layout::FACT_CELLS;
+use crate::layout::FACTS;
+use crate::layout::MOST_BLOCKS;
+use crate::layout::MOST_PROCESSORS;
+use crate::layout::PAIRS;
+use crate::layout::VARIABLES;
+use trials_cells::cells::Cells;
+use trials_cells::cells::copy;
+use trials_cells::cells::get;
+use trials_cells::cells::product;
+use trials_cells::cells::put;
+use trials_cells::cells::remainder;
+use trials_cells::cells::sum;
+use trials_cells::cells::wipe;
 
 // Processors and blocks of the largest board.
-pub const PROCESSORS: u32 = 8;
+pub const PROCESSORS: u32 = MOST_PROCESSORS;
 
-pub const BLOCKS: u32 = 256;
+pub const BLOCKS: u32 = MOST_BLOCKS;
 
 // Where the owners, the current values and main memory begin, after the counters.
-const OWNERS: u32 = FACTS + 2048;
+const OWNERS: u32 = FACTS + PAIRS;
 
-pub const CURRENT: u32 = FACTS + 2304;
+pub const CURRENT: u32 = OWNERS + MOST_BLOCKS;
 
-pub const MEMORY: u32 = FACTS + 6400;
+pub const MEMORY: u32 = CURRENT + VARIABLES;
 
 // Nothing is known yet: no copies, no marks, every variable 0.
 pub(crate) fn clear(cells: &mut Cells) {
-    wipe(cells, FACTS, 10496);
+    wipe(cells, FACTS, FACT_CELLS);
 }
 
 fn pair(i: u32, b: u32) -> u32 {

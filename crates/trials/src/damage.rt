@@ -1,17 +1,17 @@
 // Damage to the real tables: one line changes, or the main memory of its block. Some of it leaves sound tables sound.
-use crate::cells::Cells;
-use crate::cells::REAL;
-use crate::cells::copy;
-use crate::cells::get;
-use crate::cells::less;
-use crate::cells::product;
-use crate::cells::put;
-use crate::cells::remainder;
-use crate::cells::sum;
+use crate::layout::REAL;
 use crate::lent;
-use crate::state::draw;
-use crate::state::word;
 use protocol::Setup;
+use trials_cells::cells::Cells;
+use trials_cells::cells::copy;
+use trials_cells::cells::get;
+use trials_cells::cells::less;
+use trials_cells::cells::product;
+use trials_cells::cells::put;
+use trials_cells::cells::remainder;
+use trials_cells::cells::sum;
+use trials_cells::state::draw;
+use trials_cells::state::word;
 
 const COUNTERS: u32 = REAL + lent::COUNTERS;
 

@@ -11,23 +11,32 @@ use crate::board::owner;
 use crate::board::owns;
 use crate::board::set_counter;
 use crate::board::set_owner;
-use crate::cells::Cells;
-use crate::cells::LENGTHS;
-use crate::cells::REAL;
-use crate::cells::WANTED;
-use crate::cells::copy;
-use crate::cells::differences;
-use crate::cells::get;
-use crate::cells::less;
-use crate::cells::product;
-use crate::cells::put;
-use crate::cells::quotient;
-use crate::cells::remainder;
-use crate::cells::sum;
-use crate::cells::wipe;
+use crate::layout::LENGTHS;
+use crate::layout::MOST_BLOCKS;
+use crate::layout::MOST_LINES;
+use crate::layout::MOST_PROCESSORS;
+use crate::layout::MOST_WORDS;
+use crate::layout::PAIRS;
+use crate::layout::REAL;
+use crate::layout::TABLE_CELLS;
+use crate::layout::WANTED;
+use protocol::NO_REFUSAL;
+use protocol::SETUP_OUT_OF_RANGE;
 use protocol::Setup;
+use protocol::WRONG_LENGTH;
+use trials_cells::cells::Cells;
+use trials_cells::cells::copy;
+use trials_cells::cells::differences;
+use trials_cells::cells::get;
+use trials_cells::cells::less;
+use trials_cells::cells::product;
+use trials_cells::cells::put;
+use trials_cells::cells::quotient;
+use trials_cells::cells::remainder;
+use trials_cells::cells::sum;
+use trials_cells::cells::wipe;
 
-// The tables' numbers. The pricer is lent the first three, starting and a trace the first five, a run all.
+// The tables' numbers.
 pub const NUMBERS_TABLE: u32 = 0;
 
 pub const COUNTERS_TABLE: u32 = 1;
@@ -40,6 +49,13 @@ pub const MEMORY_TABLE: u32 = 4;
 
 pub const VALUES_TABLE: u32 = 5;
 
+// How many of them the pricer, starting and a run are lent.
+pub const PRICED: u32 = 3;
+
+pub const STARTED: u32 = 5;
+
+pub const ALL: u32 = 6;
+
 // Where each table begins after the first, and the cells of all.
 pub const COUNTERS: u32 = 520;
 
@@ -51,7 +67,7 @@ pub const MEMORY: u32 = 9760;
 
 pub const VALUES: u32 = 13864;
 
-pub const CELLS: u32 = 14128;
+pub const CELLS: u32 = TABLE_CELLS;
 
 // Where the model's tables begin, and the real ones that a look is about.
 const WANTED_COUNTERS: u32 = WANTED + COUNTERS;
@@ -104,7 +120,7 @@ fn right_length(setup: Setup, values: u32, table: u32) -> u32 {
 // All lengths become right.
 pub(crate) fn put_lengths(cells: &mut Cells, setup: Setup, values: u32) {
     let mut table = 0;
-    while table < 6 {
+    while table < ALL {
         put(cells, LENGTHS, table, right_length(setup, values, table));
         table += 1;
     }
@@ -114,25 +130,25 @@ fn outside(x: u32, most: u32) -> bool {
     x == 0 || x > most
 }
 
-// Condition 1.
+// Whether a number of the setup is out of range.
 pub(crate) fn setup_wrong(setup: Setup) -> bool {
-    if outside(setup.processors, 8) {
+    if outside(setup.processors, MOST_PROCESSORS) {
         return true;
     }
-    if outside(setup.lines, 64) {
+    if outside(setup.lines, MOST_LINES) {
         return true;
     }
-    if outside(setup.words, 16) {
+    if outside(setup.words, MOST_WORDS) {
         return true;
     }
-    outside(setup.blocks, 256)
+    outside(setup.blocks, MOST_BLOCKS)
 }
 
 pub(crate) fn length_wrong(cells: &Cells, setup: Setup, values: u32, table: u32) -> bool {
     length(cells, table) != right_length(setup, values, table)
 }
 
-// Condition 2, of the first n tables.
+// Whether one of the first n tables has another length than it should.
 pub(crate) fn lengths_wrong(cells: &Cells, setup: Setup, values: u32, n: u32) -> bool {
     let mut table = 0;
     while table < n {
@@ -306,7 +322,7 @@ fn lay_line(cells: &mut Cells, setup: Setup, i: u32, b: u32) {
 // Block numbers, counters and marks, which were 0: for each processor and block.
 pub(crate) fn lay_lines(cells: &mut Cells, setup: Setup) {
     let mut k = 0;
-    while k < 2048 {
+    while k < PAIRS {
         lay_line(cells, setup, k / BLOCKS, k % BLOCKS);
         k += 1;
     }
@@ -351,7 +367,7 @@ fn lay_words(cells: &mut Cells, p: u32, n: u32) {
 
 // The tables become what the facts say. They are lent at the right lengths.
 pub(crate) fn lay_out(cells: &mut Cells, setup: Setup) {
-    wipe_tables(cells, 3);
+    wipe_tables(cells, PRICED);
     lay_lines(cells, setup);
     lay_words(cells, setup.words, product(slots(setup), setup.words));
     copy(cells, board::MEMORY, WANTED_MEMORY, variables(setup));
@@ -360,13 +376,13 @@ pub(crate) fn lay_out(cells: &mut Cells, setup: Setup) {
 // Starting, over lent tables, which become what they should be after it: the refusal number, or 0.
 pub(crate) fn start(cells: &mut Cells, setup: Setup) -> u32 {
     if setup_wrong(setup) {
-        return 1;
+        return SETUP_OUT_OF_RANGE;
     }
-    if lengths_wrong(cells, setup, 0, 5) {
-        return 2;
+    if lengths_wrong(cells, setup, 0, STARTED) {
+        return WRONG_LENGTH;
     }
-    wipe_tables(cells, 5);
-    0
+    wipe_tables(cells, STARTED);
+    NO_REFUSAL
 }
 
 // Whether the tables that a look is lent, at a right setup, have other lengths. Those of marks and memory play no part.

@@ -1,15 +1,20 @@
 // Lists of requests, four numbers each.
-use crate::cells::Cells;
-use crate::cells::REQUESTS;
-use crate::cells::get;
-use crate::cells::less;
-use crate::cells::product;
-use crate::cells::put;
-use crate::cells::remainder;
-use crate::cells::sum;
-use crate::state::draw;
-use crate::state::word;
+use crate::layout::REQUESTS;
 use protocol::Setup;
+use trials_cells::cells::Cells;
+use trials_cells::cells::get;
+use trials_cells::cells::less;
+use trials_cells::cells::product;
+use trials_cells::cells::put;
+use trials_cells::cells::remainder;
+use trials_cells::cells::sum;
+use trials_cells::state::draw;
+use trials_cells::state::word;
+
+// A list has fewer requests than this, of so many numbers each.
+pub const LISTS: u32 = 61;
+
+pub const REQUEST_WIDTH: u32 = 4;
 
 // A request. Only the number 1 stands for a write.
 pub struct Request {
@@ -20,7 +25,7 @@ pub struct Request {
 }
 
 fn request_place(t: u32) -> u32 {
-    sum(REQUESTS, product(t, 4))
+    sum(REQUESTS, product(t, REQUEST_WIDTH))
 }
 
 // Request t of the list.
@@ -67,7 +72,7 @@ fn perhaps_over(cells: &mut Cells, x: u32, bound: u32, wild: u32) -> u32 {
         return x;
     }
     if past == 3 {
-        return 4294967295;
+        return u32::MAX;
     }
     sum(bound, past)
 }
@@ -78,7 +83,7 @@ fn pick_operation(cells: &mut Cells) -> u32 {
     match roll {
         0 | 1 | 2 => 0,
         3 => 2,
-        4 => 4294967295,
+        4 => u32::MAX,
         _ => 1,
     }
 }

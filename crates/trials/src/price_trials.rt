@@ -7,12 +7,6 @@ use crate::board::counter;
 use crate::board::in_the_way;
 use crate::board::owner;
 use crate::board::owns;
-use crate::cells::Cells;
-use crate::cells::less;
-use crate::cells::product;
-use crate::cells::quotient;
-use crate::cells::remainder;
-use crate::cells::sum;
 use crate::lent;
 use crate::lists;
 use crate::rival;
@@ -22,10 +16,17 @@ use crate::run_trials;
 use crate::run_trials::Judged;
 use crate::run_trials::Plan;
 use crate::setups;
-use crate::state;
-use crate::state::draw;
-use crate::state::word;
+use protocol::NO_REFUSAL;
 use protocol::Setup;
+use trials_cells::cells::Cells;
+use trials_cells::cells::less;
+use trials_cells::cells::product;
+use trials_cells::cells::quotient;
+use trials_cells::cells::remainder;
+use trials_cells::cells::sum;
+use trials_cells::state;
+use trials_cells::state::draw;
+use trials_cells::state::word;
 
 // A schedule being built: what the model makes of it, and its entries.
 struct Draft {
@@ -221,12 +222,15 @@ struct Priced {
 
 // How many numbers `count` entries have, and one or two after them that name none.
 fn numbers_of(count: u32, spare: u32) -> u32 {
-    sum(product(count, 3), spare % 3)
+    sum(
+        product(count, rival::ENTRY_WIDTH),
+        spare % rival::ENTRY_WIDTH,
+    )
 }
 
 // A legal schedule has no place, and a refused one no cost.
 fn price_answer(play: Play) -> Answer {
-    if play.refusal != 0 {
+    if play.refusal != NO_REFUSAL {
         return asked::answer_of(
             play.refusal,
             play.place as usize,
@@ -344,7 +348,7 @@ struct Question {
 
 fn pick_question(cells: &mut Cells) -> Question {
     let right = setups::new_setup(cells);
-    let n = draw(cells, 61);
+    let n = draw(cells, lists::LISTS);
     let spare = draw(cells, 4);
     let setup = setups::pick_lending(cells, right, n, 30, 20);
     Question {
@@ -361,7 +365,7 @@ fn judge_schedule(cells: &mut Cells, question: Question, count: u32, case: u32) 
     let priced = price_both(cells, question, count);
     let play = priced.play;
     state::record(cells, state::PRICE, case, play.refusal, priced.what);
-    if play.refusal != 0 {
+    if play.refusal != NO_REFUSAL {
         return;
     }
     let judged = run_fresh(cells, right, question.n);

@@ -8,17 +8,32 @@ use crate::board::other_holder;
 use crate::board::owns;
 use crate::board::set_counter;
 use crate::board::set_owner;
-use crate::cells::Cells;
-use crate::cells::ENTRIES;
-use crate::cells::get;
-use crate::cells::product;
-use crate::cells::put;
-use crate::cells::quotient;
-use crate::cells::sum;
+use crate::layout::ENTRIES;
 use crate::lent;
 use crate::lists::request_at;
 use crate::served::named_wrongly;
+use protocol::BLOCK_NOT_HELD;
+use protocol::COMPLETION_NOT_HELD;
+use protocol::DROP_OF_MARKED;
+use protocol::LINE_IN_USE;
+use protocol::NO_REFUSAL;
+use protocol::NO_REQUEST_LEFT;
+use protocol::NO_SUCH_BLOCK;
+use protocol::NO_SUCH_PROCESSOR;
+use protocol::READ_BY_BROADCAST;
+use protocol::REQUESTS_LEFT;
+use protocol::SETUP_OUT_OF_RANGE;
 use protocol::Setup;
+use protocol::WRONG_LENGTH;
+use trials_cells::cells::Cells;
+use trials_cells::cells::get;
+use trials_cells::cells::product;
+use trials_cells::cells::put;
+use trials_cells::cells::quotient;
+use trials_cells::cells::sum;
+
+// The numbers of an entry.
+pub const ENTRY_WIDTH: u32 = 3;
 
 // The kinds of entries. Any other number completes by broadcast.
 pub const FETCH: u32 = 0;
@@ -50,7 +65,7 @@ pub(crate) fn new_play() -> Play {
     Play {
         cost: 0,
         done: 0,
-        refusal: 0,
+        refusal: NO_REFUSAL,
         place: 0,
     }
 }
@@ -69,36 +84,36 @@ fn paid(play: Play, cost: u32, completed: bool) -> Play {
     Play {
         cost: sum(play.cost, cost),
         done: sum(play.done, completed as u32),
-        refusal: 0,
+        refusal: NO_REFUSAL,
         place: 0,
     }
 }
 
-// 3, 8, then 23, or 24 and 25.
+// The refusal of a fetch, a write-back or a drop.
 fn move_refusal(cells: &Cells, setup: Setup, entry: Move) -> u32 {
     let i = entry.processor;
     let b = entry.block;
     if i >= setup.processors {
-        return 3;
+        return NO_SUCH_PROCESSOR;
     }
     if b >= setup.blocks {
-        return 8;
+        return NO_SUCH_BLOCK;
     }
     if entry.kind == FETCH {
         if in_the_way(cells, setup.lines, i, b) < BLOCKS {
-            return 23;
+            return LINE_IN_USE;
         }
-        return 0;
+        return NO_REFUSAL;
     }
     if counter(cells, i, b) == 0 {
-        return 24;
+        return BLOCK_NOT_HELD;
     }
     if entry.kind == DROP {
         if owns(cells, i, b) {
-            return 25;
+            return DROP_OF_MARKED;
         }
     }
-    0
+    NO_REFUSAL
 }
 
 // A fetch, a write-back or a drop, which nothing refuses: its cost.
@@ -117,35 +132,35 @@ fn moved(cells: &mut Cells, p: u32, entry: Move) -> u32 {
 // The cost of a write by processor i, which has block b: alone it marks the block.
 fn written(cells: &mut Cells, i: u32, b: u32, broadcast: bool) -> u32 {
     if broadcast {
-        return 1;
+        return SETUP_OUT_OF_RANGE;
     }
     if other_holder(cells, i, b) < PROCESSORS {
-        return 1;
+        return SETUP_OUT_OF_RANGE;
     }
     set_owner(cells, b, sum(i, 1));
     0
 }
 
-// 26, 3, 4, 9 and 27, of the completion of request t of n.
+// The refusal of the completion of request t of n.
 fn completion_refusal(cells: &Cells, setup: Setup, n: u32, t: u32, broadcast: bool) -> u32 {
     if t >= n {
-        return 26;
+        return NO_REQUEST_LEFT;
     }
     let request = request_at(cells, t);
     let named = named_wrongly(setup, request.processor, request.variable);
-    if named != 0 {
+    if named != NO_REFUSAL {
         return named;
     }
     if broadcast {
         if !request.write {
-            return 9;
+            return READ_BY_BROADCAST;
         }
     }
     let b = quotient(request.variable, setup.words);
     if counter(cells, request.processor, b) == 0 {
-        return 27;
+        return COMPLETION_NOT_HELD;
     }
-    0
+    NO_REFUSAL
 }
 
 fn entry_refusal(cells: &Cells, setup: Setup, n: u32, t: u32, entry: Move) -> u32 {
@@ -174,11 +189,11 @@ pub(crate) fn play_entry(
     place: u32,
     play: Play,
 ) -> Play {
-    if play.refusal != 0 {
+    if play.refusal != NO_REFUSAL {
         return play;
     }
     let refusal = entry_refusal(cells, setup, n, play.done, entry);
-    if refusal != 0 {
+    if refusal != NO_REFUSAL {
         return refused(play, refusal, place);
     }
     if entry.kind < COMPLETE {
@@ -190,10 +205,10 @@ pub(crate) fn play_entry(
 }
 
 fn entry_place(t: u32) -> u32 {
-    sum(ENTRIES, product(t, 3))
+    sum(ENTRIES, product(t, ENTRY_WIDTH))
 }
 
-// Entry t of the list, of three numbers each.
+// Entry t of the list.
 fn entry_at(cells: &Cells, t: u32) -> Move {
     let first = entry_place(t);
     Move {
@@ -226,39 +241,39 @@ fn play_all(cells: &mut Cells, setup: Setup, count: u32, n: u32) -> Play {
     play
 }
 
-// 28.
+// Requests are left at the end.
 fn ended(play: Play, count: u32, n: u32) -> Play {
-    if play.refusal != 0 {
+    if play.refusal != NO_REFUSAL {
         return play;
     }
     if play.done < n {
-        return refused(play, 28, count);
+        return refused(play, REQUESTS_LEFT, count);
     }
     play
 }
 
-// 1 and 2, of the pricer's three tables.
+// The refusal of the setup and of the pricer's tables.
 fn price_refusal(cells: &Cells, setup: Setup) -> u32 {
     if lent::setup_wrong(setup) {
-        return 1;
+        return SETUP_OUT_OF_RANGE;
     }
-    if lent::lengths_wrong(cells, setup, 0, 3) {
-        return 2;
+    if lent::lengths_wrong(cells, setup, 0, lent::PRICED) {
+        return WRONG_LENGTH;
     }
-    0
+    NO_REFUSAL
 }
 
-// The price of a schedule of `count` entries for n requests, both too few for 5. The lent tables become what they should
+// The price of a schedule of `count` entries for n requests, both too few to be refused for that. The lent tables become what they should
 // be after it: the rival's position, or 0 after a refusal.
 pub(crate) fn price(cells: &mut Cells, setup: Setup, count: u32, n: u32) -> Play {
     let refusal = price_refusal(cells, setup);
-    if refusal != 0 {
+    if refusal != NO_REFUSAL {
         return refused(new_play(), refusal, 0);
     }
     clear(cells);
-    lent::wipe_tables(cells, 3);
+    lent::wipe_tables(cells, lent::PRICED);
     let play = ended(play_all(cells, setup, count, n), count, n);
-    if play.refusal != 0 {
+    if play.refusal != NO_REFUSAL {
         return play;
     }
     lent::lay_lines(cells, setup);

@@ -2,27 +2,29 @@
 use crate::asked;
 use crate::asked::Answer;
 use crate::asked::Shown;
-use crate::cells::Cells;
-use crate::cells::REAL;
-use crate::cells::WANTED;
-use crate::cells::copy;
-use crate::cells::differences;
-use crate::cells::less;
-use crate::cells::product;
-use crate::cells::put;
-use crate::cells::quotient;
-use crate::cells::sum;
 use crate::damage;
+use crate::layout::REAL;
+use crate::layout::WANTED;
 use crate::lent;
 use crate::lists;
 use crate::served;
 use crate::served::Outcome;
 use crate::setups;
-use crate::state;
-use crate::state::draw;
-use crate::state::word;
 use protocol::Account;
+use protocol::IMPOSSIBLE_ACCOUNT;
 use protocol::Setup;
+use protocol::UNSOUND_TABLES;
+use trials_cells::cells::Cells;
+use trials_cells::cells::copy;
+use trials_cells::cells::differences;
+use trials_cells::cells::less;
+use trials_cells::cells::product;
+use trials_cells::cells::put;
+use trials_cells::cells::quotient;
+use trials_cells::cells::sum;
+use trials_cells::state;
+use trials_cells::state::draw;
+use trials_cells::state::word;
 
 const REAL_MEMORY: u32 = REAL + lent::MEMORY;
 
@@ -185,7 +187,7 @@ pub struct Judged {
 
 // How many numbers a list of n requests has, and some after it.
 pub(crate) fn numbers_of(n: u32, spare: u32) -> u32 {
-    sum(product(n, 4), spare)
+    sum(product(n, lists::REQUEST_WIDTH), spare)
 }
 
 fn run_answer(outcome: Outcome) -> Answer {
@@ -326,7 +328,7 @@ fn next_series(cells: &mut Cells, at: Series, case: u32) -> Series {
 fn pick_plan(cells: &mut Cells, at: Series) -> Plan {
     let right = at.setup;
     let account = at.account;
-    let n = draw(cells, 61);
+    let n = draw(cells, lists::LISTS);
     let spare = draw(cells, 4);
     lists::pick_requests(cells, right, n, 100);
     let setup = setups::pick_lending(cells, right, n, 24, 12);
@@ -375,7 +377,7 @@ pub(crate) fn run_case(cells: &mut Cells, last: Series, case: u32) -> Series {
     series_after(at, judged)
 }
 
-// A list that was refused by 20 or 21 ends there.
+// A list whose tables or account were refused ends there.
 fn series_after(at: Series, judged: Judged) -> Series {
     let setup = at.setup;
     let account = judged.account;
@@ -387,10 +389,10 @@ fn series_after(at: Series, judged: Judged) -> Series {
 }
 
 fn left_after(refusal: u32, left: u32) -> u32 {
-    if refusal == 20 {
+    if refusal == UNSOUND_TABLES {
         return 0;
     }
-    if refusal == 21 {
+    if refusal == IMPOSSIBLE_ACCOUNT {
         return 0;
     }
     less(left, 1)

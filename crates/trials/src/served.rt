@@ -12,18 +12,28 @@ use crate::board::set_counter;
 use crate::board::set_current;
 use crate::board::set_owner;
 use crate::board::set_stored;
-use crate::cells::Cells;
-use crate::cells::WANTED;
-use crate::cells::less;
-use crate::cells::product;
-use crate::cells::put;
-use crate::cells::quotient;
-use crate::cells::sum;
+use crate::layout::MOST_REQUESTS;
+use crate::layout::MOST_WORDS;
+use crate::layout::WANTED;
 use crate::lent;
 use crate::lists::Request;
 use crate::lists::request_at;
+use protocol::ACCOUNT_FULL;
 use protocol::Account;
+use protocol::IMPOSSIBLE_ACCOUNT;
+use protocol::NO_REFUSAL;
+use protocol::NO_SUCH_PROCESSOR;
+use protocol::NO_SUCH_VARIABLE;
+use protocol::SETUP_OUT_OF_RANGE;
 use protocol::Setup;
+use protocol::UNSOUND_TABLES;
+use protocol::WRONG_LENGTH;
+use trials_cells::cells::Cells;
+use trials_cells::cells::less;
+use trials_cells::cells::product;
+use trials_cells::cells::put;
+use trials_cells::cells::quotient;
+use trials_cells::cells::sum;
 
 // Where the model's values go.
 const VALUES: u32 = WANTED + lent::VALUES;
@@ -141,40 +151,40 @@ pub(crate) fn entered(account: Account, served: Served) -> Account {
     }
 }
 
-// 3 and 4.
+// A processor or a variable that there is not.
 pub(crate) fn named_wrongly(setup: Setup, i: u32, v: u32) -> u32 {
     if i >= setup.processors {
-        return 3;
+        return NO_SUCH_PROCESSOR;
     }
     if v >= product(setup.blocks, setup.words) {
-        return 4;
+        return NO_SUCH_VARIABLE;
     }
-    0
+    NO_REFUSAL
 }
 
-// 3, 4 and 22.
+// The refusal of a request.
 fn refused(setup: Setup, so_far: Outcome, request: Request) -> u32 {
     let account = so_far.account;
     let named = named_wrongly(setup, request.processor, request.variable);
-    if named != 0 {
+    if named != NO_REFUSAL {
         return named;
     }
-    if account.requests >= 1000000 {
-        return 22;
+    if account.requests >= MOST_REQUESTS {
+        return ACCOUNT_FULL;
     }
-    0
+    NO_REFUSAL
 }
 
-// 21: the cycles of a kind against p × requests, in 64 bits.
+// Whether the cycles of a kind are more than p × requests, in 64 bits.
 fn over(cycles: u32, p: u32, requests: u32) -> bool {
     cycles as u64 > times(requests, p)
 }
 
-// p × requests, p at most 16, by adding.
+// p × requests, p at most MOST_WORDS, by adding.
 fn times(requests: u32, p: u32) -> u64 {
     let mut all: u64 = 0;
     let mut k = 0;
-    while k < 16 {
+    while k < MOST_WORDS {
         if k < p {
             all = std::num::wrapping_add_u64(all, requests as u64);
         }
@@ -203,17 +213,22 @@ fn refused_at(so_far: Outcome, refusal: u32) -> Outcome {
 // The run with one request more.
 fn taken(so_far: Outcome, served: Served) -> Outcome {
     let account = so_far.account;
-    outcome_of(sum(so_far.taken, 1), 0, 0, entered(account, served))
+    outcome_of(
+        sum(so_far.taken, 1),
+        NO_REFUSAL,
+        0,
+        entered(account, served),
+    )
 }
 
 // The run after its next request; after a refusal nothing changes.
 fn taken_next(cells: &mut Cells, setup: Setup, so_far: Outcome) -> Outcome {
-    if so_far.refusal != 0 {
+    if so_far.refusal != NO_REFUSAL {
         return so_far;
     }
     let request = request_at(cells, so_far.taken);
     let refusal = refused(setup, so_far, request);
-    if refusal != 0 {
+    if refusal != NO_REFUSAL {
         return refused_at(so_far, refusal);
     }
     let served = serve(cells, setup, request);
@@ -232,7 +247,7 @@ fn outcome_of(taken: u32, refusal: u32, place: u32, account: Account) -> Outcome
 
 // The requests in turn.
 fn take_all(cells: &mut Cells, setup: Setup, n: u32, account: Account) -> Outcome {
-    let mut so_far = outcome_of(0, 0, 0, account);
+    let mut so_far = outcome_of(0, NO_REFUSAL, 0, account);
     let mut t = 0;
     while t < n {
         so_far = taken_next(cells, setup, so_far);
@@ -241,27 +256,27 @@ fn take_all(cells: &mut Cells, setup: Setup, n: u32, account: Account) -> Outcom
     so_far
 }
 
-// 1, 2, 20 and 21, of a run of n requests; the facts become what the tables show.
+// The refusal of a run of n requests as a whole; the facts become what the tables show.
 fn run_refusal(cells: &mut Cells, setup: Setup, account: Account, n: u32) -> u32 {
     if lent::setup_wrong(setup) {
-        return 1;
+        return SETUP_OUT_OF_RANGE;
     }
-    if lent::lengths_wrong(cells, setup, n, 6) {
-        return 2;
+    if lent::lengths_wrong(cells, setup, n, lent::ALL) {
+        return WRONG_LENGTH;
     }
     if lent::load(cells, setup) > 0 {
-        return 20;
+        return UNSOUND_TABLES;
     }
     if impossible(setup.words, account) {
-        return 21;
+        return IMPOSSIBLE_ACCOUNT;
     }
-    0
+    NO_REFUSAL
 }
 
 // A run of n requests over lent tables, which become what they should be after it.
 pub(crate) fn run(cells: &mut Cells, setup: Setup, account: Account, n: u32) -> Outcome {
     let refusal = run_refusal(cells, setup, account, n);
-    if refusal != 0 {
+    if refusal != NO_REFUSAL {
         return outcome_of(0, refusal, 0, account);
     }
     let after = take_all(cells, setup, n, account);

@@ -1,20 +1,24 @@
 // Setups, lengths and accounts for the cases, right ones and wrong ones.
-use crate::cells::Cells;
-use crate::cells::LENGTHS;
-use crate::cells::less;
-use crate::cells::product;
-use crate::cells::put;
-use crate::cells::quotient;
-use crate::cells::remainder;
-use crate::cells::sum;
-use crate::din_lines;
+use crate::layout::LENGTHS;
+use crate::layout::MOST_BLOCKS;
+use crate::layout::MOST_LINES;
+use crate::layout::MOST_PROCESSORS;
+use crate::layout::MOST_REQUESTS;
+use crate::layout::MOST_WORDS;
 use crate::lent;
-use crate::state;
-use crate::state::between;
-use crate::state::draw;
-use crate::state::word;
 use protocol::Account;
 use protocol::Setup;
+use trials_cells::cells::Cells;
+use trials_cells::cells::less;
+use trials_cells::cells::product;
+use trials_cells::cells::put;
+use trials_cells::cells::quotient;
+use trials_cells::cells::remainder;
+use trials_cells::cells::sum;
+use trials_cells::state;
+use trials_cells::state::between;
+use trials_cells::state::draw;
+use trials_cells::state::word;
 
 fn setup_of(processors: u32, lines: u32, words: u32, blocks: u32) -> Setup {
     Setup {
@@ -35,7 +39,7 @@ fn within(cells: &mut Cells, largest: Setup) -> Setup {
 }
 
 // The largest numbers of a shape that is drawn.
-fn largest(shape: u32) -> Setup {
+pub(crate) fn largest(shape: u32) -> Setup {
     match shape {
         // Few blocks: much sharing.
         0 => setup_of(8, 2, 4, 6),
@@ -47,8 +51,10 @@ fn largest(shape: u32) -> Setup {
         4 => setup_of(3, 1, 3, 3),
         // A pair of processors on one block.
         7 => setup_of(2, 1, 6, 1),
+        // That of every trace.
+        8 => setup_of(4, 8, 4, 64),
         // Any, or the largest.
-        _ => setup_of(8, 64, 16, 256),
+        _ => setup_of(MOST_PROCESSORS, MOST_LINES, MOST_WORDS, MOST_BLOCKS),
     }
 }
 
@@ -58,10 +64,9 @@ pub(crate) fn pick_setup(cells: &mut Cells) -> Setup {
     let any = within(cells, largest(6));
     match shape {
         // More lines than blocks.
-        3 => setup_of(any.processors, 64, any.words, between(cells, 1, 8)),
-        5 => largest(5),
+        3 => setup_of(any.processors, MOST_LINES, any.words, between(cells, 1, 8)),
+        5 | 8 => largest(shape),
         6 => any,
-        8 => din_lines::trace_setup(),
         _ => within(cells, largest(shape)),
     }
 }
@@ -87,10 +92,10 @@ pub(crate) fn with_number(setup: Setup, which: u32, x: u32) -> Setup {
 // The largest that the setup's number `which` may be.
 pub(crate) fn most(which: u32) -> u32 {
     match which {
-        0 => 8,
-        1 => 64,
-        2 => 16,
-        _ => 256,
+        0 => MOST_PROCESSORS,
+        1 => MOST_LINES,
+        2 => MOST_WORDS,
+        _ => MOST_BLOCKS,
     }
 }
 
@@ -126,7 +131,7 @@ fn off_by_one(x: u32, up: bool) -> u32 {
 // Once in n times one of the lengths becomes wrong by one.
 pub(crate) fn perhaps_wrong_lengths(cells: &mut Cells, n: u32) {
     let roll = draw(cells, n);
-    let which = draw(cells, 6);
+    let which = draw(cells, lent::ALL);
     let up = draw(cells, 2) == 0;
     if roll != 0 {
         return;
@@ -150,7 +155,7 @@ pub(crate) fn pick_lending(
     setup
 }
 
-// p × requests, for p at most 16 and some millions of requests.
+// p × requests, for p at most MOST_WORDS and some millions of requests.
 fn full(p: u32, requests: u32) -> u32 {
     let thousands = product(quotient(requests, 1000), product(p, 1000));
     sum(thousands, product(p, remainder(requests, 1000)))
@@ -172,12 +177,12 @@ pub(crate) fn fresh_account() -> Account {
 // An account of a shape, from numbers drawn for it: `requests` is about a million.
 fn account_at(shape: u32, p: u32, requests: u32, few: u32, far: u32) -> Account {
     match shape {
-        // About to be full, and at the limits of 21.
+        // About to be full, and at the limits of what is possible.
         0 => account_of(requests, full(p, requests), full(p, requests), requests),
         1 => account_of(requests, 0, 0, 0),
         // Possible, and some way on.
         2 => account_of(few, full(p, few), 0, quotient(few, 2)),
-        3 => account_of(1000000, few, few, few),
+        3 => account_of(MOST_REQUESTS, few, few, few),
         // Impossible by one, in each kind.
         4 => account_of(few, sum(full(p, few), 1), 0, 0),
         5 => account_of(few, 0, sum(full(p, few), 1), 0),

@@ -23,7 +23,7 @@ reduced a b = cond (eqb b 0) 0 (a % b)
 
 -- the number of cells
 abbrev pub size : ℕ
-size = 48676
+size = 40484
 
 -- cell k of the part that begins at f; 0 outside the cells
 unfoldable pub cell : List ℕ → ℕ → ℕ → ℕ

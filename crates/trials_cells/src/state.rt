@@ -127,7 +127,8 @@ pub fn add(cells: &mut Cells, place: u32, x: u32)
     put(cells, STATE, place, sum(before, x));
 }
 
-fn count_place(kind: u32, number: u32) -> u32
+// Where the trials of a kind that ended in a number are counted.
+pub fn count_place(kind: u32, number: u32) -> u32
     ensures { λ r. ⌜ r ≡ countPlace kind number ⌝ }
 {
     sum(COUNTS, kind % KINDS * NUMBERS + number % NUMBERS)
