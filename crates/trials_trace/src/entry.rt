@@ -21,57 +21,46 @@ pub struct Counted {
     pub unlike: u32,
 }
 
-fn set(table: &mut [u32], k: u32, x: u32) {
-    let i = k as usize;
-    if i < table.len() {
-        table[i] = x;
-    }
-}
-
-fn fill(to: &mut [u32], case: u32, table: u32) {
+// The words of a table become numbers counted from `from`.
+fn fill(to: &mut [u32], from: u32) {
+    let mut number = from;
     let mut k = 0;
-    while k < layout::TABLE_CELLS {
-        set(to, k, layout::scattered(case, table, k));
+    while k < to.len() {
+        to[k] = number;
+        number = sum(number, 1);
         k += 1;
     }
 }
 
 // n, or the room where n is more.
-fn within_room(n: u32) -> usize
-    ensures { λ r. ⌜ r ≤ 264 ⌝ }
+fn within(n: u32, room: usize) -> usize
+    ensures { λ r. ⌜ r ≤ room ⌝ }
 {
     let k = n as usize;
-    if k <= ROOM {
+    if k <= room {
         return k;
     }
-    ROOM
+    room
 }
 
 // A table as it is before the case: how much of it is lent.
 fn lend(to: &mut Table, lending: Lending, case: u32, table: u32) -> usize
     ensures { λ r. ⌜ r ≤ length (now (to .exit)) ⌝ }
 {
-    fill(to, case, table);
-    within_room(layout::length(lending, table))
+    fill(to, layout::scattered(case, table));
+    within(layout::length(lending, table), ROOM)
 }
 
-fn element(table: &Table, k: u32) -> u32 {
-    let i = k as usize;
-    if i < ROOM {
-        return table[i];
-    }
-    0
-}
-
-// How many cells of a table are not the model's.
-fn unlike(cells: &Cells, table: u32, from: &Table) -> u32 {
-    let first = layout::table_place(table);
+// How many cells of a table are not the model's, which begin at `first`.
+fn unlike(cells: &Cells, first: u32, table: &Table) -> u32 {
     let mut count = 0;
+    let mut place = first;
     let mut k = 0;
-    while k < layout::TABLE_CELLS {
-        if element(from, k) != get(cells, first, k) {
+    while k < ROOM {
+        if table[k] != get(cells, place, 0) {
             count = sum(count, 1);
         }
+        place = sum(place, 1);
         k += 1;
     }
     count
@@ -92,22 +81,12 @@ fn fill_bytes(cells: &Cells, n: u32, to: &mut [u8]) {
     }
 }
 
-fn within_longest(n: u32) -> usize
-    ensures { λ r. ⌜ r ≤ 8200 ⌝ }
-{
-    let k = n as usize;
-    if k <= LONGEST {
-        return k;
-    }
-    LONGEST
-}
-
 // The n bytes of the trace go to an array: how many of them are lent.
 fn lend_bytes(cells: &Cells, n: u32, to: &mut [u8; LONGEST]) -> usize
     ensures { λ r. ⌜ r ≤ length (now (to .exit)) ⌝ }
 {
     fill_bytes(cells, n, to);
-    within_longest(n)
+    within(n, LONGEST)
 }
 
 // The trace of the first n bytes.
@@ -118,11 +97,11 @@ pub(crate) fn count(cells: &Cells, lending: Lending, n: u32, case: u32) -> Count
     let mut words = [0u32; ROOM];
     let mut memory = [0u32; ROOM];
     let mut bytes = [0u8; LONGEST];
-    let a = lend(&mut blocks, lending, case, 0);
-    let b = lend(&mut counters, lending, case, 1);
-    let c = lend(&mut marks, lending, case, 2);
-    let d = lend(&mut words, lending, case, 3);
-    let e = lend(&mut memory, lending, case, 4);
+    let a = lend(&mut blocks, lending, case, layout::NUMBERS_TABLE);
+    let b = lend(&mut counters, lending, case, layout::COUNTERS_TABLE);
+    let c = lend(&mut marks, lending, case, layout::MARKS_TABLE);
+    let d = lend(&mut words, lending, case, layout::WORDS_TABLE);
+    let e = lend(&mut memory, lending, case, layout::MEMORY_TABLE);
     let f = lend_bytes(cells, n, &mut bytes);
     let report = trace::count_trace(
         &bytes[..f],
@@ -132,10 +111,16 @@ pub(crate) fn count(cells: &Cells, lending: Lending, n: u32, case: u32) -> Count
         &mut words[..d],
         &mut memory[..e],
     );
-    let first = sum(unlike(cells, 0, &blocks), unlike(cells, 1, &counters));
-    let last = sum(unlike(cells, 3, &words), unlike(cells, 4, &memory));
+    let first = sum(
+        unlike(cells, layout::NUMBERS, &blocks),
+        unlike(cells, layout::COUNTERS, &counters),
+    );
+    let last = sum(
+        unlike(cells, layout::WORDS, &words),
+        unlike(cells, layout::MEMORY, &memory),
+    );
     Counted {
         report: report,
-        unlike: sum(sum(first, unlike(cells, 2, &marks)), last),
+        unlike: sum(sum(first, unlike(cells, layout::MARKS, &marks)), last),
     }
 }

@@ -8,11 +8,21 @@ use trials_cells::cells::sum;
 pub const BYTES: u32 = 256;
 
 // The tables: block numbers, counters, marks, words and main memory, in room for the longest and a few cells more each.
+pub const NUMBERS_TABLE: u32 = 0;
+
+pub const COUNTERS_TABLE: u32 = 1;
+
+pub const MARKS_TABLE: u32 = 2;
+
+pub const WORDS_TABLE: u32 = 3;
+
+pub const MEMORY_TABLE: u32 = 4;
+
 pub const TABLES: u32 = 5;
 
 pub const ROOM: usize = 264;
 
-pub const TABLE_CELLS: u32 = 264;
+pub const TABLE_CELLS: u32 = ROOM as u32;
 
 pub const NUMBERS: u32 = 8448;
 
@@ -45,8 +55,8 @@ pub struct Lending {
 
 pub(crate) fn right_length(table: u32) -> u32 {
     match table {
-        0 | 1 | 2 => SLOTS,
-        3 => ALL_WORDS,
+        NUMBERS_TABLE | COUNTERS_TABLE | MARKS_TABLE => SLOTS,
+        WORDS_TABLE => ALL_WORDS,
         _ => VARIABLES,
     }
 }
@@ -58,21 +68,16 @@ pub(crate) fn length(lending: Lending, table: u32) -> u32 {
     right_length(table)
 }
 
-// Where a table begins.
-pub(crate) fn table_place(table: u32) -> u32 {
-    sum(NUMBERS, product(table, TABLE_CELLS))
-}
-
-// What cell k of a table holds before a case.
-pub(crate) fn scattered(case: u32, table: u32, k: u32) -> u32 {
-    sum(product(table, TABLE_CELLS), sum(case, k))
+// What the first cell of a table holds before a case.
+pub(crate) fn scattered(case: u32, table: u32) -> u32 {
+    sum(case, product(table, TABLE_CELLS))
 }
 
 // Every cell of the tables gets a number of its own.
 pub(crate) fn scatter(cells: &mut Cells, case: u32) {
     let mut k = 0;
     while k < TABLES * TABLE_CELLS {
-        put(cells, NUMBERS, k, scattered(case, 0, k));
+        put(cells, NUMBERS, k, sum(case, k));
         k += 1;
     }
 }

@@ -1,3 +1,4 @@
+-- The loop's invariant: k cells are copied; one more by copied-more.
 use Rattle.trials_cells.proofs.Laws.{copied-more}
 use mathlib.Core.Path.{_≡_, refl}
 use native.Mathlib.Omega.{arith}

@@ -1,3 +1,4 @@
+-- By the cases of `unlike` (unlike-same, unlike-other).
 use native.Mathlib.Omega.{arith}
 use Rattle.trials_cells.proofs.Laws.{unlike-same, unlike-other}
 use Rattle.trials_cells.proofs.cells.differ.Statement.{statement}

@@ -1,3 +1,4 @@
+-- The loop's invariant: the differences of k cells; one more by differing-more.
 use mathlib.Core.Path.{_≡_, refl}
 use native.Mathlib.Omega.{arith}
 use Prim.Native.Nat.{_≤_, _-_}

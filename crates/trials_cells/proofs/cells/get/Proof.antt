@@ -1,3 +1,4 @@
+-- Inside the cells and outside, by the cases of `cell` (cell-inside, cell-outside).
 use Rattle.trials_cells.proofs.Laws.{cell-inside, cell-outside}
 use native.Mathlib.Omega.{arith}
 use denote.Ref.{now}

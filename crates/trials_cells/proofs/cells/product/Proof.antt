@@ -1,3 +1,4 @@
+-- By the cases of `multiplied`; the product fits by `fits`.
 use borrow.Author.Needs.{needs}
 use Rattle.trials_cells.proofs.Laws.{fits, multiplied-small, multiplied-right, multiplied-left}
 use native.Mathlib.Omega.{arith}

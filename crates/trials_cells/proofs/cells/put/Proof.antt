@@ -1,3 +1,4 @@
+-- Inside the cells and outside, by the cases of `with` (with-inside, with-outside).
 use Rattle.trials_cells.proofs.Laws.{with-inside, with-outside}
 use native.Mathlib.Omega.{arith}
 use denote.Ref.{now}

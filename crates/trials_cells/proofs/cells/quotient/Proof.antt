@@ -1,3 +1,4 @@
+-- By the cases of `divided` (divided-none, divided-some).
 use Rattle.trials_cells.proofs.Laws.{divided-none, divided-some}
 use native.Mathlib.Omega.{arith}
 use borrow.Author.Needs.{needs}

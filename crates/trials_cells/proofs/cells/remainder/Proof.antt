@@ -1,3 +1,4 @@
+-- By the cases of `reduced` (reduced-none, reduced-some).
 use Rattle.trials_cells.proofs.Laws.{reduced-none, reduced-some}
 use native.Mathlib.Omega.{arith}
 use borrow.Author.Needs.{needs}

@@ -1,3 +1,4 @@
+-- The loop's invariant: k cells are wiped; one more by wiped-more.
 use Rattle.trials_cells.proofs.Laws.{wiped-more}
 use mathlib.Core.Path.{_≡_, refl}
 use native.Mathlib.Omega.{arith}

@@ -1,3 +1,4 @@
+-- The callees' equations, put together.
 use borrow.Author.Needs.{needs}
 use Rattle.trials_cells.proofs.state.between.Statement.{statement}
 use Rattle.trials_cells.proofs.state.between.Tie as tie

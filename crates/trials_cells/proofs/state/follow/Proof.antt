@@ -1,3 +1,4 @@
+-- By following-is.
 use Rattle.trials_cells.proofs.Laws.{following-is}
 use native.Mathlib.Omega.{arith}
 use borrow.Author.Needs.{needs}

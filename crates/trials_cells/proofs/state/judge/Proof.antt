@@ -1,3 +1,4 @@
+-- By the cases of `judged` (judged-nothing, judged-something).
 use Rattle.trials_cells.proofs.Laws.{judged-nothing, judged-something}
 use native.Mathlib.Omega.{arith}
 use denote.Ref.{now}

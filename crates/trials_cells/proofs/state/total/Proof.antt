@@ -1,3 +1,4 @@
+-- The loop's invariant: the total of the numbers passed; one more by totalled-more.
 use Rattle.trials_cells.proofs.Laws.{totalled-more}
 use mathlib.Core.Path.{_≡_, refl}
 use native.Mathlib.Omega.{arith}

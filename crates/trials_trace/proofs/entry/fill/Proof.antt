@@ -6,10 +6,10 @@ use Rattle.trials_trace.proofs.entry.fill.Statement.{statement}
 use Rattle.trials_trace.proofs.entry.fill.Tie as tie
 
 abbrev Inv-loop : tie.InvT-loop
-Inv-loop to₀ case table k₀ to k = length to ≡ length to₀
+Inv-loop to₀ from number₀ k₀ to number k = length to ≡ length to₀
 
 abbrev μ-loop : tie.MeasureT-loop
-μ-loop to₀ case table k₀ to k = 264 - k
+μ-loop to₀ from number₀ k₀ to number k = length to₀ - k
 
 pub fill-spec : {M : Type 1} → statement M
 fill-spec =
@@ -18,7 +18,8 @@ fill-spec =
     Inv-loop
     μ-loop
     (λ c. search needs)
-    (λ c κs. search needs)
+    (λ c. search needs)
+    (λ c. search needs)
     (λ c κs. search needs)
     (λ c. search needs)
     (λ c. search needs)

@@ -4,10 +4,10 @@ use Rattle.trials_trace.proofs.entry.unlike.Statement.{statement}
 use Rattle.trials_trace.proofs.entry.unlike.Tie as tie
 
 abbrev Inv-loop : tie.InvT-loop
-Inv-loop cells table from first count₀ k₀ count k = 0 ≤ k
+Inv-loop cells first table count₀ place₀ k₀ count place k = 0 ≤ k
 
 abbrev μ-loop : tie.MeasureT-loop
-μ-loop cells table from first count₀ k₀ count k = 264 - k
+μ-loop cells first table count₀ place₀ k₀ count place k = 264 - k
 
 pub unlike-spec : {M : Type 1} → statement M
 unlike-spec =
@@ -15,7 +15,8 @@ unlike-spec =
     (tie.spec
     Inv-loop
     μ-loop
-    (λ c κs. search needs)
+    (λ c. search needs)
+    (λ c. search needs)
     (λ c. search needs)
     (λ c κs. search needs)
     (λ c κs. search needs)
