@@ -5,20 +5,21 @@ use mathlib.Core.Path.{_≡_, refl}
 use mathlib.Core.Bool.{cond}
 use native.Mathlib.Omega.{arith}
 use lib.Dec.{ltb}
-use Rattle.protocol.specs.Refusals.{noRefusal, accountFull}
-use Rattle.protocol.specs.Board.{setupRefusal}
+use Rattle.types.specs.Refusals.{noRefusal, accountFull}
+use Rattle.types.specs.Board.{setupRefusal}
 use Rattle.protocol.specs.Tables.{Tables}
 use Rattle.protocol.specs.Soundness.{Sound}
-use Rattle.protocol.specs.Requests.{Valid, requestLimit, requestRefusal}
+use Rattle.types.specs.Conditions.{Valid, requestLimit, requestRefusal}
 use Rattle.protocol.specs.Accounts.{freshAccount}
 use Rattle.protocol.specs.Runs.{runRefusal, engine}
-use Rattle.protocol.specs.declared.Setup.{Setup}
-use Rattle.protocol.specs.declared.Request.{Request}
-use Rattle.protocol.proofs.Laws.{choice}
-use Rattle.protocol.proofs.Board.{setup-fits}
+use Rattle.types.specs.declared.Setup.{Setup}
+use Rattle.types.specs.declared.Request.{Request}
+use Rattle.types.proofs.Laws.{choice}
+use Rattle.types.proofs.Board.{setup-fits}
 use Rattle.protocol.proofs.Checked.{sound-passes, sized-passes}
 use Rattle.protocol.proofs.Accounts.{Possible, is-possible}
-use Rattle.protocol.proofs.Requests.{named-choice, request-passed, bill-spent}
+use Rattle.types.proofs.Conditions.{named-choice, request-passed}
+use Rattle.protocol.proofs.Requests.{bill-spent}
 use Rattle.protocol.proofs.Engines.{Neither20Nor21, Serving, Lawful}
 use Rattle.competitive.proofs.StepSound.{sound-served}
 

@@ -4,18 +4,19 @@ use engine_holders::holds;
 use engine_lines::fetch;
 use engine_writes::write;
 use parts::word_of;
-use protocol::Bill;
-use protocol::Block;
-use protocol::Operation;
-use protocol::Request;
-use protocol::Setup;
-use protocol::Variable;
+use types::Bill;
+use types::Block;
+use types::Operation;
+use types::Request;
+use types::Setup;
+use types::Variable;
 ghost use mathlib.Core.Path.{_≡_};
 ghost use Prim.Native.Nat.{_<_};
-ghost use Rattle.protocol.specs.Board.{Fits, variables};
+ghost use Rattle.types.specs.Board.{Fits, variables};
 ghost use Rattle.protocol.specs.Lent.{lent, before, after};
 ghost use Rattle.protocol.specs.Rules.{obtained};
-ghost use Rattle.protocol.specs.Requests.{Valid, valueBy, billBy, servedBy, value, bill, served};
+ghost use Rattle.types.specs.Conditions.{Valid};
+ghost use Rattle.protocol.specs.Requests.{valueBy, billBy, servedBy, value, bill, served};
 ghost use Rattle.engine.specs.Usable.{Usable, obtainBill, operationOf};
 
 // The value that a request supplies or writes, and its cycles.

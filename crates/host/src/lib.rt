@@ -1,8 +1,8 @@
 // The product for hosts in C and Rust: functions of numbers and slices of numbers alone. Every out-parameter is always written.
-use protocol::Account;
-use protocol::Block;
-use protocol::PriceAnswer;
-use protocol::Setup;
+use types::Account;
+use types::Block;
+use types::PriceAnswer;
+use types::Setup;
 ghost use mathlib.Core.Path.{_≡_};
 ghost use Rattle.protocol.specs.Lent.{before, after};
 ghost use Rattle.protocol.specs.Engines.{answered, run as ran};
@@ -146,7 +146,7 @@ fn number_of(answer: PriceAnswer) -> u32
     ensures { λ r. ⌜ r ≡ numberOf answer ⌝ }
 {
     match answer {
-        PriceAnswer::Accepted(_) => protocol::NO_REFUSAL,
+        PriceAnswer::Accepted(_) => types::NO_REFUSAL,
         PriceAnswer::Refused(number, _) => number,
     }
 }

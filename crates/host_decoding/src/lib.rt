@@ -1,9 +1,9 @@
 // Requests and a schedule's entries, read from lists of numbers.
-use protocol::Block;
-use protocol::Entry;
-use protocol::Operation;
-use protocol::Request;
-use protocol::Variable;
+use types::Block;
+use types::Entry;
+use types::Operation;
+use types::Request;
+use types::Variable;
 ghost use mathlib.Core.Path.{_≡_};
 ghost use Prim.Native.Nat.{_/_, _<_};
 ghost use lib.ListN.{length};

@@ -1,6 +1,6 @@
 // A look as an offset and a length, for hosts to which no slice can be given back.
-use protocol::Block;
-use protocol::Setup;
+use types::Block;
+use types::Setup;
 ghost use mathlib.Core.Path.{_≡_};
 ghost use Rattle.host_looks.specs.Looks.{lookLength, lookOffset};
 

@@ -1,8 +1,8 @@
 // A run and a schedule's price over plain numbers: requests and entries are decoded as they are reached.
-use protocol::Account;
-use protocol::PriceAnswer;
-use protocol::RunAnswer;
-use protocol::Setup;
+use types::Account;
+use types::PriceAnswer;
+use types::RunAnswer;
+use types::Setup;
 ghost use mathlib.Core.Path.{_≡_};
 ghost use Rattle.protocol.specs.Lent.{before, after};
 ghost use Rattle.protocol.specs.Engines.{run as ran};

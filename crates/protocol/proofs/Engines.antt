@@ -10,16 +10,16 @@ use native.Mathlib.Nat.{mul-suc}
 use lib.ListN.{length, length-append}
 use lib.Dec.{eqb}
 use borrow.Author.Tests.{eqb-true}
-use Rattle.protocol.specs.Lists.{tail, Each}
-use Rattle.protocol.specs.Refusals.{noRefusal, wrongLength, unsoundTables, impossibleAccount}
-use Rattle.protocol.specs.Board.{fetchPrice, mostWriteBack}
+use Rattle.types.specs.Lists.{tail, Each}
+use Rattle.types.specs.Refusals.{noRefusal, wrongLength, unsoundTables, impossibleAccount}
+use Rattle.types.specs.Board.{fetchPrice, mostWriteBack}
 use Rattle.protocol.specs.Accounts.{entered, Spent}
-use Rattle.protocol.specs.Requests.{requestLimit}
+use Rattle.types.specs.Conditions.{requestLimit}
 use Rattle.protocol.specs.Engines.{Engine, Outcome, endedBy, onward, runFrom, run, Run, State, outcomeOf, leftBy, outcomes, runs, takenFrom, takenRun, takenAll, servedAll, spent, expectedFrom, expectedRun, expectedAll, valuesOf, Never20Or21}
-use Rattle.protocol.specs.declared.Setup.{Setup}
-use Rattle.protocol.specs.declared.Bill.{Bill}
-use Rattle.protocol.specs.declared.Account.{Account}
-use Rattle.protocol.proofs.Laws.{choice}
+use Rattle.types.specs.declared.Setup.{Setup}
+use Rattle.types.specs.declared.Bill.{Bill}
+use Rattle.types.specs.declared.Account.{Account}
+use Rattle.types.proofs.Laws.{choice}
 use Rattle.protocol.proofs.Accounts.{Possible, account-path}
 
 -- ---- what is asked of an engine

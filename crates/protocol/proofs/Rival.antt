@@ -7,19 +7,19 @@ use native.Mathlib.Omega.{arith}
 use lib.ListN.{length, set, length-set, length-replicate}
 use lib.Dec.{ltb}
 use borrow.Author.Tests.{ltb-true, lt-ltb}
-use Rattle.protocol.specs.Refusals.{noRefusal, noSuchProcessor, noSuchBlock, readByBroadcast, completionNotHeld}
-use Rattle.protocol.specs.Board.{slots, slot, blockOf}
-use Rattle.protocol.specs.Requests.{Valid}
+use Rattle.types.specs.Refusals.{noRefusal, noSuchProcessor, noSuchBlock, readByBroadcast, completionNotHeld}
+use Rattle.types.specs.Board.{slots, slot, blockOf}
+use Rattle.types.specs.Conditions.{Valid}
 use Rattle.protocol.specs.Rival.{Rival, RivalSized, noCopies, keeps, shared, unmarked, rivalFetched, rivalWrittenBack, rivalDropped, completedMarks, rivalCompleted, played, moveRefusal, readyRefusal, completionRefusal}
-use Rattle.protocol.specs.declared.Setup.{Setup}
-use Rattle.protocol.specs.declared.Block.{Block}
-use Rattle.protocol.specs.declared.Request.{Request}
-use Rattle.protocol.specs.declared.Operation.{Operation}
-use Rattle.protocol.specs.declared.Operation.the-variants.{Read, Write}
-use Rattle.protocol.specs.declared.Entry.{Entry}
-use Rattle.protocol.specs.declared.Entry.the-variants.{Fetch, WriteBack, Drop, Complete, CompleteByBroadcast}
-use Rattle.protocol.proofs.Laws.{choice, chosen-zero}
-use Rattle.protocol.proofs.Requests.{named-passes, valid-passed}
+use Rattle.types.specs.declared.Setup.{Setup}
+use Rattle.types.specs.declared.Block.{Block}
+use Rattle.types.specs.declared.Request.{Request}
+use Rattle.types.specs.declared.Operation.{Operation}
+use Rattle.types.specs.declared.Operation.the-variants.{Read, Write}
+use Rattle.types.specs.declared.Entry.{Entry}
+use Rattle.types.specs.declared.Entry.the-variants.{Fetch, WriteBack, Drop, Complete, CompleteByBroadcast}
+use Rattle.types.proofs.Laws.{choice, chosen-zero}
+use Rattle.types.proofs.Conditions.{named-passes, valid-passed}
 
 -- ---- entries that are not refused
 

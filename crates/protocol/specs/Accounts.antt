@@ -2,10 +2,10 @@
 use Prim.Native.Nat.{ℕ, _+_, _*_, _≤_}
 use mathlib.Core.Bool.{Bool, _&&_}
 use lib.Dec.{leb}
-use Rattle.protocol.specs.Board.{fetchPrice, mostWriteBack}
-use Rattle.protocol.specs.declared.Setup.{Setup}
-use Rattle.protocol.specs.declared.Bill.{Bill}
-use Rattle.protocol.specs.declared.Account.{Account}
+use Rattle.types.specs.Board.{fetchPrice, mostWriteBack}
+use Rattle.types.specs.declared.Setup.{Setup}
+use Rattle.types.specs.declared.Bill.{Bill}
+use Rattle.types.specs.declared.Account.{Account}
 
 -- ---- bills
 

@@ -5,12 +5,12 @@ use mathlib.Core.Bool.{cond}
 use mathlib.Core.List.{List, [], _∷_, _++_}
 use lib.ListN.{length}
 use lib.Dec.{eqb}
-use Rattle.protocol.specs.Lists.{tail}
-use Rattle.protocol.specs.Refusals.{noRefusal, unsoundTables, impossibleAccount}
+use Rattle.types.specs.Lists.{tail}
+use Rattle.types.specs.Refusals.{noRefusal, unsoundTables, impossibleAccount}
 use Rattle.protocol.specs.Accounts.{nothing, plus, entered}
-use Rattle.protocol.specs.declared.Bill.{Bill}
-use Rattle.protocol.specs.declared.Account.{Account}
-use Rattle.protocol.specs.declared.RunAnswer.{RunAnswer}
+use Rattle.types.specs.declared.Bill.{Bill}
+use Rattle.types.specs.declared.Account.{Account}
+use Rattle.types.specs.declared.RunAnswer.{RunAnswer}
 
 -- what the rules of an engine say
 pub record Engine (T Q : Type 0) : Type 0 where

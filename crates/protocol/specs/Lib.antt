@@ -1,6 +1,3 @@
-pub mod Lists
-pub mod Refusals
-pub mod Board
 pub mod Tables
 pub mod Lent
 pub mod Soundness

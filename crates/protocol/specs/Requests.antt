@@ -1,36 +1,20 @@
--- One request: the tables after it, its value, its bill and its refusals (document 01, "What one request does" and conditions 3, 4, 22).
+-- One request: the tables after it, its value, and its bill (document 01, "What one request does").
 use Prim.Native.Nat.{ℕ, _<_}
 use mathlib.Core.List.{List}
 use lib.Dec.{ltb}
-use Rattle.protocol.specs.Lists.{Each}
-use Rattle.protocol.specs.Refusals.{noRefusal, unless, noSuchProcessor, noSuchVariable, accountFull}
-use Rattle.protocol.specs.Board.{variables, blockOf, offsetOf, slot}
+use Rattle.types.specs.Lists.{Each}
+use Rattle.types.specs.Refusals.{noRefusal, unless, noSuchProcessor, noSuchVariable, accountFull}
+use Rattle.types.specs.Board.{variables, blockOf, offsetOf, slot}
 use Rattle.protocol.specs.Tables.{Tables, word}
 use Rattle.protocol.specs.Rules.{obtained, fetchCycles, writeBackCycles, written, updateCycles}
-use Rattle.protocol.specs.declared.Setup.{Setup}
-use Rattle.protocol.specs.declared.Variable.{Variable}
-use Rattle.protocol.specs.declared.Request.{Request}
-use Rattle.protocol.specs.declared.Operation.{Operation}
-use Rattle.protocol.specs.declared.Operation.the-variants.{Read, Write}
-use Rattle.protocol.specs.declared.Bill.{Bill}
+use Rattle.types.specs.declared.Setup.{Setup}
+use Rattle.types.specs.declared.Variable.{Variable}
+use Rattle.types.specs.declared.Request.{Request}
+use Rattle.types.specs.declared.Operation.{Operation}
+use Rattle.types.specs.declared.Operation.the-variants.{Read, Write}
+use Rattle.types.specs.declared.Bill.{Bill}
 
 -- Each definition goes by the cases of the operation, and then is said of a request.
-
--- ---- what a request names
-
--- the operation's variable is below M × p
-abbrev pub Named : Setup → Operation → Type 0
-Named s (Read v) = v .0 < variables s
-Named s (Write v x) = v .0 < variables s
-
--- a request that 3 and 4 let through
-pub record Valid (s : Setup) (q : Request) : Type 0 where
-  pub processor : q .processor < s .processors
-  pub operation : Named s (q .operation)
-
--- each of a list
-abbrev pub AllValid : Setup → List Request → Type 0
-AllValid s qs = Each (Valid s) qs
 
 -- ---- what it does
 
@@ -65,24 +49,3 @@ billBy s t i (Write v x) = record {
 
 unfoldable pub bill : Setup → Tables → Request → Bill
 bill s t q = billBy s t (q .processor) (q .operation)
-
--- ---- 3, 4 and 22, in this order, where n requests have been taken
-
--- "1,000,000 requests"
-abbrev pub requestLimit : ℕ
-requestLimit = 1000000
-
--- 4, then n
-unfoldable pub variableRefusal : Setup → Variable → ℕ → ℕ
-variableRefusal s v n = unless (ltb (v .0) (variables s)) noSuchVariable n
-
--- of an operation that names a variable
-abbrev pub namedRefusal : Setup → Operation → ℕ → ℕ
-namedRefusal s (Read v) n = variableRefusal s v n
-namedRefusal s (Write v x) n = variableRefusal s v n
-
-unfoldable pub requestRefusal : Setup → ℕ → Request → ℕ
-requestRefusal s n q =
-    unless (ltb (q .processor) (s .processors)) noSuchProcessor
-    (namedRefusal s (q .operation)
-    (unless (ltb n requestLimit) accountFull noRefusal))

@@ -1,8 +1,8 @@
 // A run over a lent list of requests, on the lent tables and the lent account.
-use protocol::Account;
-use protocol::Request;
-use protocol::RunAnswer;
-use protocol::Setup;
+use types::Account;
+use types::Request;
+use types::RunAnswer;
+use types::Setup;
 ghost use mathlib.Core.Path.{_≡_};
 ghost use Rattle.protocol.specs.Lent.{before, after};
 ghost use Rattle.protocol.specs.Engines.{run as ran};

@@ -1,14 +1,14 @@
 // A run between two requests, whatever the engine: what is checked of the account, and how the run goes on or stops.
-use protocol::Account;
-use protocol::Bill;
-use protocol::RunAnswer;
-use protocol::Setup;
+use types::Account;
+use types::Bill;
+use types::RunAnswer;
+use types::Setup;
 ghost use mathlib.Core.Path.{_≡_};
 ghost use mathlib.Core.Bool.{false, cond};
 ghost use lib.Dec.{ltb, eqb};
 ghost use Prim.Native.Nat.{_*_, _≤_, _<_, _^_};
-ghost use Rattle.protocol.specs.Refusals.{noRefusal};
-ghost use Rattle.protocol.specs.Board.{Fits};
+ghost use Rattle.types.specs.Refusals.{noRefusal};
+ghost use Rattle.types.specs.Board.{Fits};
 ghost use Rattle.protocol.specs.Accounts.{plus, possible};
 ghost use Rattle.run_progress.specs.Progress.{Sums, begun, stopped, advanced, grown, GrowthFits, growthOf};
 
@@ -58,7 +58,7 @@ pub fn is_possible(setup: Setup, account: Account) -> bool
 fn goes_on(refusal: u32, count: usize) -> bool
     ensures { λ r. ⌜ r ≡ cond (eqb refusal noRefusal) (ltb 0 count) false ⌝ }
 {
-    if refusal != protocol::NO_REFUSAL {
+    if refusal != types::NO_REFUSAL {
         return false;
     }
     0 < count
@@ -117,7 +117,7 @@ pub fn advance(p: Progress, more: Bill, taken: usize, count: usize) -> Progress
         bill: total,
         answer: RunAnswer {
             taken: taken,
-            refusal: protocol::NO_REFUSAL,
+            refusal: types::NO_REFUSAL,
             place: 0,
         },
     }

@@ -6,16 +6,18 @@ use mathlib.Core.Bool.{false}
 use native.Mathlib.Omega.{arith}
 use lib.Dec.{eqb}
 use borrow.Author.Tests.{eqb-true, eq-eqb, ne-eqb}
-use Rattle.protocol.specs.Refusals.{noRefusal}
+use Rattle.types.specs.Refusals.{noRefusal}
 use Rattle.protocol.specs.Tables.{Tables}
-use Rattle.protocol.specs.Requests.{served, bill, requestRefusal}
+use Rattle.types.specs.Conditions.{requestRefusal}
+use Rattle.protocol.specs.Requests.{served, bill}
 use Rattle.protocol.specs.Accounts.{entered, billOf}
-use Rattle.protocol.specs.declared.Request.{Request}
-use Rattle.protocol.specs.declared.Bill.{Bill}
-use Rattle.protocol.specs.declared.Account.{Account}
-use Rattle.protocol.proofs.Laws.{choice}
+use Rattle.types.specs.declared.Request.{Request}
+use Rattle.types.specs.declared.Bill.{Bill}
+use Rattle.types.specs.declared.Account.{Account}
+use Rattle.types.proofs.Laws.{choice}
 use Rattle.protocol.proofs.Accounts.{spent-plus}
-use Rattle.protocol.proofs.Requests.{request-passed, bill-spent}
+use Rattle.types.proofs.Conditions.{request-passed}
+use Rattle.protocol.proofs.Requests.{bill-spent}
 use Rattle.engine.proofs.Usable.{usable-served}
 use Rattle.trace_scan.specs.Automaton.{newLine}
 use Rattle.trace_scan.specs.declared.Line.{Line}

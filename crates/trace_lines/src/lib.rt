@@ -1,10 +1,10 @@
 // What a line of a trace asks for.
-use protocol::Account;
-use protocol::Operation;
-use protocol::Request;
-use protocol::Setup;
-use protocol::Variable;
 use trace_din::Parsed;
+use types::Account;
+use types::Operation;
+use types::Request;
+use types::Setup;
+use types::Variable;
 ghost use mathlib.Core.Path.{_≡_};
 ghost use Rattle.trace_lines.specs.Trace.{traceSetup, processorAt, variableAt, readAt, writeAt, interpretedLabel, interpreted};
 

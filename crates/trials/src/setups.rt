@@ -6,8 +6,6 @@ use crate::layout::MOST_PROCESSORS;
 use crate::layout::MOST_REQUESTS;
 use crate::layout::MOST_WORDS;
 use crate::lent;
-use protocol::Account;
-use protocol::Setup;
 use trials_cells::cells::Cells;
 use trials_cells::cells::less;
 use trials_cells::cells::product;
@@ -19,6 +17,8 @@ use trials_cells::state;
 use trials_cells::state::between;
 use trials_cells::state::draw;
 use trials_cells::state::word;
+use types::Account;
+use types::Setup;
 
 fn setup_of(processors: u32, lines: u32, words: u32, blocks: u32) -> Setup {
     Setup {

@@ -2,11 +2,11 @@
 use borrow.Author.Needs.{needs}
 use native.Mathlib.Omega.{arith}
 use denote.Ref.{now}
-use Rattle.protocol.specs.Lists.{at}
-use Rattle.protocol.specs.Board.{slots}
+use Rattle.types.specs.Lists.{at}
+use Rattle.types.specs.Board.{slots}
 use Rattle.protocol.specs.Tables.{lineWords}
 use Rattle.protocol.specs.Rules.{writtenBack}
-use Rattle.protocol.proofs.Rows.{row-end}
+use Rattle.types.proofs.Rows.{row-end}
 use Rattle.engine_evictions.proofs.write_back.Statement.{statement}
 use Rattle.engine_evictions.proofs.write_back.Tie as tie
 

@@ -3,10 +3,10 @@ use mathlib.Core.Path.{sym, _∙_}
 use native.Mathlib.Omega.{arith}
 use borrow.Author.Tests.{eq-eqb, ne-eqb}
 use denote.Ref.{now}
-use Rattle.protocol.specs.Lists.{at}
-use Rattle.protocol.specs.Board.{slots}
+use Rattle.types.specs.Lists.{at}
+use Rattle.types.specs.Board.{slots}
 use Rattle.protocol.specs.Soundness.{copyLine}
-use Rattle.protocol.proofs.Rows.{row-end}
+use Rattle.types.proofs.Rows.{row-end}
 use borrow.Author.Needs.{needs}
 use Rattle.engine_soundness.proofs.copy_sound.Statement.{statement}
 use Rattle.engine_soundness.proofs.copy_sound.Tie as tie

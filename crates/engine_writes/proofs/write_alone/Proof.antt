@@ -1,9 +1,9 @@
 -- The word lies within the words of the slot.
 use borrow.Author.Needs.{needs}
 use native.Mathlib.Omega.{arith}
-use Rattle.protocol.specs.Board.{slots}
+use Rattle.types.specs.Board.{slots}
 use Rattle.protocol.specs.Rules.{writtenAlone}
-use Rattle.protocol.proofs.Board.{wordIndex-lt}
+use Rattle.types.proofs.Board.{wordIndex-lt}
 use Rattle.engine_writes.proofs.write_alone.Statement.{statement}
 use Rattle.engine_writes.proofs.write_alone.Tie as tie
 

@@ -5,9 +5,9 @@ use denote.Ref.{now}
 use lib.ListN.{length}
 use borrow.Author.Needs.{needs}
 use Rattle.protocol.specs.Tables.{tables}
-use Rattle.protocol.specs.Requests.{Valid}
+use Rattle.types.specs.Conditions.{Valid}
 use Rattle.protocol.specs.Runs.{engine}
-use Rattle.protocol.proofs.Requests.{request-passed}
+use Rattle.types.proofs.Conditions.{request-passed}
 use Rattle.engine.specs.Usable.{Usable}
 use Rattle.run_progress.specs.Progress.{runStage, advanced}
 use Rattle.run_progress.proofs.Laws.{sums-taken, turned-refused, turned-taken}

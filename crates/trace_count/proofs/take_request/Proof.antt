@@ -3,9 +3,10 @@
 use mathlib.Core.Path.{_≡_, sym, _∙_}
 use native.Mathlib.Omega.{arith}
 use borrow.Author.Needs.{needs}
-use Rattle.protocol.specs.Refusals.{noRefusal}
-use Rattle.protocol.specs.Requests.{requestRefusal}
-use Rattle.protocol.proofs.Requests.{request-passed, bill-spent}
+use Rattle.types.specs.Refusals.{noRefusal}
+use Rattle.types.specs.Conditions.{requestRefusal}
+use Rattle.types.proofs.Conditions.{request-passed}
+use Rattle.protocol.proofs.Requests.{bill-spent}
 use Rattle.trace_lines.specs.Trace.{traceSetup}
 use Rattle.trace_lines.proofs.Laws.{trace-fits}
 use Rattle.trace_count.proofs.Laws.{counted-refused, counted-taken}
