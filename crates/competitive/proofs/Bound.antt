@@ -31,7 +31,7 @@ use Rattle.types.proofs.Laws.{Known, sure, not-so, known, choice, chosen-zero, 
 use Rattle.types.proofs.Board.{block-path, block-number, slot-lt, slot-inj, offset-lt, block-lt}
 use Rattle.protocol.proofs.Holding.{holdsAt-false, holder-slot, payer-below, payer-found}
 use Rattle.protocol.proofs.Lengths.{block-stored, counter-stored, sized-evicted, sized-released, sized-broadcast}
-use Rattle.protocol.proofs.Rival.{move-legal, Ready, Completion, completion-legal, sized-played}
+use Rattle.protocol.proofs.Rival.{move-legal, Completable, Completion, completion-legal, sized-played}
 use Rattle.competitive.proofs.Sums.{sum, sum-one}
 use Rattle.competitive.proofs.StepSound.{sound-obtained, obtained-holds, sound-served}
 use Rattle.competitive.proofs.Potential.{Potential}
@@ -314,7 +314,7 @@ module _ (s : Setup) (ok : Fits s) (F W U : ℕ) (ψ : ℕ → ℕ → ℕ → �
   shared-pays r i v false h = rw h (omega arith)
 
   -- processor i's operation, completed by the rival too
-  servedBy-bound : (t : Tables) (sd : Sound s t) (r : Rival) (i : ℕ) (o : Operation) (a : Bool) → i < s .processors → Named s o → Ready s r i o
+  servedBy-bound : (t : Tables) (sd : Sound s t) (r : Rival) (i : ℕ) (o : Operation) (a : Bool) → i < s .processors → Named s o → Completable s r i o
       → total ψ s (servedBy s t i o) r + weightBy F W U s t i o ≤ total ψ s t r + completionBy s r i o a
   servedBy-bound t sd r i (Read v) a hi n kp = omega (arith, obtained-bound t sd r i (blockOf s v) hi kp)
   servedBy-bound t sd r i (Write v x) a hi n kp =

@@ -156,7 +156,8 @@ pub fn update_copies(
     requires { ⌜ Fits setup ⌝ }
     requires { ⌜ offset < setup .words ⌝ }
     requires { ⌜ PerSlot setup blocks × PerSlot setup counters × PerSlotWord setup words ⌝ }
-    ensures { λ _. ⌜ ((m g : List ℕ) → now (words .exit) ≡ updatedCopies setup (before blocks counters (unlent m) words (unlent g)) block offset value (setup .processors)) ⌝ }
+    ensures { λ _. ⌜ ((m g : List ℕ) → now (words .exit)
+        ≡ updatedCopies setup (before blocks counters (unlent m) words (unlent g)) block offset value (setup .processors)) ⌝ }
 {
     let n = setup.processors;
     for j in 0..n {

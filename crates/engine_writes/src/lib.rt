@@ -28,7 +28,8 @@ fn write_alone(
     requires { ⌜ k < slots setup ⌝ }
     requires { ⌜ offset < setup .words ⌝ }
     requires { ⌜ PerSlot setup counters × PerSlot setup marks × PerSlotWord setup words ⌝ }
-    ensures { λ _. ⌜ ((b g : List ℕ) → after (unlent b) counters marks words (unlent g) ≡ writtenAlone setup (before (unlent b) counters marks words (unlent g)) k offset value) ⌝ }
+    ensures { λ _. ⌜ ((b g : List ℕ) → after (unlent b) counters marks words (unlent g)
+        ≡ writtenAlone setup (before (unlent b) counters marks words (unlent g)) k offset value) ⌝ }
 {
     let full = setup.fetch_price();
     counters[k] = full;
@@ -53,7 +54,8 @@ fn broadcast(
     requires { ⌜ block .0 < setup .blocks ⌝ }
     requires { ⌜ offset < setup .words ⌝ }
     requires { ⌜ PerSlot setup blocks × PerSlot setup counters × PerSlotWord setup words × PerVariable setup memory ⌝ }
-    ensures { λ _. ⌜ ((m : List ℕ) → after blocks counters (unlent m) words memory ≡ broadcast setup (before blocks counters (unlent m) words memory) writer block offset value) ⌝ }
+    ensures { λ _. ⌜ ((m : List ℕ) → after blocks counters (unlent m) words memory
+        ≡ broadcast setup (before blocks counters (unlent m) words memory) writer block offset value) ⌝ }
 {
     update_copies(setup, block, offset, value, blocks, counters, words);
     set_word(setup, block.0 as usize, offset, value, memory);
@@ -81,7 +83,8 @@ fn write_shared(
     requires { ⌜ offset < setup .words ⌝ }
     requires { ⌜ 1 ≤ at (now counters) payer ⌝ }
     requires { ⌜ Sized setup (lent blocks counters marks words memory) ⌝ }
-    ensures { λ _. ⌜ after blocks counters marks words memory ≡ charged setup (broadcast setup (before blocks counters marks words memory) writer block offset value) payer ⌝ }
+    ensures { λ _. ⌜ after blocks counters marks words memory
+        ≡ charged setup (broadcast setup (before blocks counters marks words memory) writer block offset value) payer ⌝ }
 {
     broadcast(
         setup,

@@ -41,7 +41,8 @@ pub extern "C" fn cuzkelor_start(
     memory: &mut [u32],
 ) -> u32
     ensures { λ r. ⌜ r ≡ startRefusal (setupOf processors lines «block_words» «block_count») (before blocks counters marks words memory) ⌝ }
-    ensures { λ _. ⌜ after blocks counters marks words memory ≡ started (setupOf processors lines «block_words» «block_count») (before blocks counters marks words memory) ⌝ }
+    ensures { λ _. ⌜ after blocks counters marks words memory
+        ≡ started (setupOf processors lines «block_words» «block_count») (before blocks counters marks words memory) ⌝ }
 {
     let setup = setup_of(processors, lines, block_words, block_count);
     engine_tables::start(setup, blocks, counters, marks, words, memory)

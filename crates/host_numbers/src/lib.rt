@@ -97,7 +97,8 @@ pub fn price(
     requests: &[u32],
 ) -> PriceAnswer
     ensures { λ r. ⌜ (r ≡ priced setup (rivalBefore blocks held marks) (requestsOf (now (requests .entry))) (entriesOf (now (entries .entry))))
-        × (rivalAfter blocks held marks ≡ priceTables setup (rivalBefore blocks held marks) (requestsOf (now (requests .entry))) (entriesOf (now (entries .entry)))) ⌝ }
+        × (rivalAfter blocks held marks
+        ≡ priceTables setup (rivalBefore blocks held marks) (requestsOf (now (requests .entry))) (entriesOf (now (entries .entry)))) ⌝ }
 {
     let entry_count = host_decoding::entry_count(entries);
     let request_count = host_decoding::request_count(requests);

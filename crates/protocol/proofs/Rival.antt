@@ -37,25 +37,25 @@ move-legal s i b n e =
     record { processor = ltb-true _ _ (e₁ .0); block = ltb-true _ _ (e₂ .0); rest = e₂ .1 }
 
 -- what completing processor i's operation needs of the copies
-abbrev pub Ready : Setup → Rival → ℕ → Operation → Type 0
-Ready s r i (Read v) = keeps s r i (blockOf s v) ≡ true
-Ready s r i (Write v x) = keeps s r i (blockOf s v) ≡ true
+abbrev pub Completable : Setup → Rival → ℕ → Operation → Type 0
+Completable s r i (Read v) = keeps s r i (blockOf s v) ≡ true
+Completable s r i (Write v x) = keeps s r i (blockOf s v) ≡ true
 
-ready-passed : (s : Setup) (r : Rival) (i : ℕ) (o : Operation) (a : Bool) → readyRefusal s r i o a ≡ 0 → Ready s r i o
+ready-passed : (s : Setup) (r : Rival) (i : ℕ) (o : Operation) (a : Bool) → readyRefusal s r i o a ≡ 0 → Completable s r i o
 ready-passed s r i (Read v) a e =
     let kept : ℕ = cond (keeps s r i (blockOf s v)) noRefusal completionNotHeld in
     chosen-zero (keeps s r i (blockOf s v)) noRefusal completionNotHeld (omega arith) (chosen-zero (not a) kept readByBroadcast (omega arith) e .1) .0
 ready-passed s r i (Write v x) a e = chosen-zero (keeps s r i (blockOf s v)) noRefusal completionNotHeld (omega arith) e .0
 
 -- and that this is enough, plainly
-pub ready-passes : (s : Setup) (r : Rival) (i : ℕ) (o : Operation) → Ready s r i o → readyRefusal s r i o false ≡ 0
+pub ready-passes : (s : Setup) (r : Rival) (i : ℕ) (o : Operation) → Completable s r i o → readyRefusal s r i o false ≡ 0
 ready-passes s r i (Read v) e = rw e
 ready-passes s r i (Write v x) e = rw e
 
 -- a completion
 pub record Completion (s : Setup) (r : Rival) (q : Request) : Type 0 where
   pub valid : Valid s q
-  pub ready : Ready s r (q .processor) (q .operation)
+  pub ready : Completable s r (q .processor) (q .operation)
 
 pub completion-legal : (s : Setup) (r : Rival) (q : Request) (a : Bool) → completionRefusal s r q a ≡ 0 → Completion s r q
 unfolding completionRefusal
@@ -63,7 +63,7 @@ completion-legal s r q a e =
     let v = valid-passed s q (readyRefusal s r (q .processor) (q .operation) a) e in
     record { valid = v .0; ready = ready-passed s r (q .processor) (q .operation) a (v .1) }
 
-pub legal-completion : (s : Setup) (r : Rival) (q : Request) → Valid s q → Ready s r (q .processor) (q .operation) → completionRefusal s r q false ≡ 0
+pub legal-completion : (s : Setup) (r : Rival) (q : Request) → Valid s q → Completable s r (q .processor) (q .operation) → completionRefusal s r q false ≡ 0
 unfolding completionRefusal
 legal-completion s r q v e =
     rw (lt-ltb _ _ (v .processor))

@@ -97,7 +97,8 @@ pub fn draw(cells: &mut Cells, below: u32) -> u32
 
 // Any number of 32 bits.
 pub fn word(cells: &mut Cells) -> u32
-    ensures { λ r. ⌜ (r ≡ roll (now (cells .entry)) 65536 % 65536 * 65536 + roll (drawn (now (cells .entry))) 65536 % 65536) × (now (cells .exit) ≡ drawn (drawn (now (cells .entry)))) ⌝ }
+    ensures { λ r. ⌜ (r ≡ roll (now (cells .entry)) 65536 % 65536 * 65536 + roll (drawn (now (cells .entry))) 65536 % 65536)
+        × (now (cells .exit) ≡ drawn (drawn (now (cells .entry)))) ⌝ }
 {
     let high = draw(cells, HALF_WORD) % HALF_WORD;
     let low = draw(cells, HALF_WORD) % HALF_WORD;
