@@ -7,7 +7,9 @@ use Rattle.host.proofs.cuzkelor_price.Tie as tie
 
 returns : tie.Need-returns
 returns c =
-    let e = rw (c .before .before .before .before .before .before .before .before .before .before .before .before .before .setup-of .ensures) at (c .before .before .before .before .before .before .before .before .before .price .ensures) in (
+    let price′ = c .before .before .before .before .before .before .before .before .before in
+    let setup-of′ = price′ .before .before .before .before in
+    let e = rw (setup-of′ .setup-of .ensures) at (price′ .price .ensures) in (
       record {
         number = c .number-of .ensures ∙ ap numberOf (e .0);
         place = c .before .before .place-of .ensures ∙ ap placeOf (e .0);

@@ -13,10 +13,13 @@ use Rattle.host.proofs.cuzkelor_run.Tie as tie
 
 returns : tie.Need-returns
 returns c =
-    let a = c .before .before .before .before .before .before .before .before .before .before .before .before .before .before .before .before .before .before .before .before .before .before .before .before .before .before .before .before .before .before .before .args in
+    let run′ = c .before .before .before .before .before .before .before .before .before .before .before .before in
+    let setup-of′ = run′ .before .before .before .before .before .before .before .before .before .before .before in
+    let start = setup-of′ .before .before .before .before .before .before .before .before in
+    let a = start .args in
     let T = tables (now (a .blocks)) (now (a .counters)) (now (a .marks)) (now (a .words)) (now (a .memory)) in
     let before = accountOf (now (a .account-requests)) (now (a .account-fetch)) (now (a .account-write-back)) (now (a .account-update)) in
-    c .before .before .before .before .before .before .before .before .before .before .before .before .run .ensures ∙ ap (λ (s : Setup). ran (engine s) T before (requestsOf (now (a .requests))) (now (a .values))) (c .before .before .before .before .before .before .before .before .before .before .before .before .before .before .before .before .before .before .before .before .before .before .before .setup-of .ensures)
+    run′ .run .ensures ∙ ap (λ (s : Setup). ran (engine s) T before (requestsOf (now (a .requests))) (now (a .values))) (setup-of′ .setup-of .ensures)
 
 pub cuzkelor-run-spec : {M : Type 1} → statement M
 cuzkelor-run-spec =

@@ -4,7 +4,10 @@ use Rattle.host.proofs.cuzkelor_start.Statement.{statement}
 use Rattle.host.proofs.cuzkelor_start.Tie as tie
 
 returns : tie.Need-returns
-returns c = rw (c .before .before .before .before .before .before .before .before .before .before .before .before .before .before .before .before .setup-of .ensures) at (c .before .before .before .before .before .before .before .before .before .before .start .ensures)
+returns c =
+    let start′ = c .before .before .before .before .before .before .before .before .before .before in
+    let setup-of′ = start′ .before .before .before .before .before .before in
+    rw (setup-of′ .setup-of .ensures) at (start′ .start .ensures)
 
 pub cuzkelor-start-spec : {M : Type 1} → statement M
 cuzkelor-start-spec =

@@ -1,3 +1,4 @@
+-- The loop keeps what the pricer's laws keep, over entries and requests that are decoded as they are reached (Prices).
 use borrow.Author.Needs.{needs}
 use mathlib.Core.Path.{_≡_, refl}
 use denote.Ref.{now}
@@ -42,55 +43,81 @@ here c =
 
 request-at-requires : tie.Need-request-at-requires Inv-loop μ-loop
 request-at-requires c κs =
-    let a = c .before .before .before .before .before .before .before .before .before .before .before .before .before .before .before .before .before .before .before .before .args in
-    let l = c .before .before .loop in
-    request-within (a .setup) (rival (now (a .blocks)) (now (a .held)) (now (a .marks))) (now (a .entries)) (now (a .requests)) (priceStage (l .p) (rival (l .blocks) (l .held) (l .marks))) (here (c .before .before)) (c .before .loop-test .taken) (c .if1 .taken)
+    let loop′ = c .before .before in
+    let start = loop′ .before .before .before .before .before .before .before .before .before .before .before .before .before .before .before .before .before .before in
+    let a = start .args in
+    request-within (a .setup) (rival (now (a .blocks)) (now (a .held)) (now (a .marks))) (now (a .entries)) (now (a .requests)) (priceStage (loop′ .loop .p) (rival (loop′ .loop .blocks) (loop′ .loop .held) (loop′ .loop .marks))) (here (c .before .before)) (c .before .loop-test .taken) (c .if1 .taken)
 
 complete-requires : tie.Need-complete-requires Inv-loop μ-loop
 complete-requires c κs =
-    let a = c .before .before .before .before .before .before .before .before .before .before .before .before .before .before .before .before .before .before .before .before .before .before .before .before .args in
-    let l = c .before .before .before .before .before .before .loop in
-    due (a .setup) (rival (now (a .blocks)) (now (a .held)) (now (a .marks))) (entriesOf (now (a .entries))) (requestsOf (now (a .requests))) (priceStage (l .p) (rival (l .blocks) (l .held) (l .marks))) (here (c .before .before .before .before .before .before)) (c .before .before .before .before .before .loop-test .taken) (c .before .before .before .before .if1 .taken)
+    let if1′ = c .before .before .before .before in
+    let before′ = if1′ .before in
+    let loop′ = before′ .before in
+    let start = loop′ .before .before .before .before .before .before .before .before .before .before .before .before .before .before .before .before .before .before in
+    let a = start .args in
+    due (a .setup) (rival (now (a .blocks)) (now (a .held)) (now (a .marks))) (entriesOf (now (a .entries))) (requestsOf (now (a .requests))) (priceStage (loop′ .loop .p) (rival (loop′ .loop .blocks) (loop′ .loop .held) (loop′ .loop .marks))) (here (before′ .before)) (before′ .loop-test .taken) (if1′ .if1 .taken)
 
 loop-less : tie.Need-loop-less Inv-loop μ-loop
 loop-less c =
-    let a = c .before .before .before .before .before .before .before .before .before .before .before .before .before .before .before .before .before .before .before .before .before .before .before .before .before .before .before .before .before .before .before .args in
-    let l = c .before .before .before .before .before .before .before .before .before .before .before .before .before .loop in
-    completes-falls (a .setup) (rival (now (a .blocks)) (now (a .held)) (now (a .marks))) (now (a .entries)) (now (a .requests)) (priceStage (l .p) (rival (l .blocks) (l .held) (l .marks))) (here (c .before .before .before .before .before .before .before .before .before .before .before .before .before)) (c .before .before .before .before .before .before .before .before .before .before .before .before .loop-test .taken) (c .before .before .before .before .before .before .before .before .before .before .before .if1 .taken) (c .before .before .before .before .before .before .before .before .before .before .request-at .result) (c .before .before .before .before .before .before .before .before .before .before .request-at .ensures) _ (c .before .before .before .before .before .before .complete .ensures)
+    let complete′ = c .before .before .before .before .before .before in
+    let request-at′ = complete′ .before .before .before .before in
+    let if1′ = request-at′ .before in
+    let before′ = if1′ .before in
+    let loop′ = before′ .before in
+    let start = loop′ .before .before .before .before .before .before .before .before .before .before .before .before .before .before .before .before .before .before in
+    let a = start .args in
+    completes-falls (a .setup) (rival (now (a .blocks)) (now (a .held)) (now (a .marks))) (now (a .entries)) (now (a .requests)) (priceStage (loop′ .loop .p) (rival (loop′ .loop .blocks) (loop′ .loop .held) (loop′ .loop .marks))) (here (before′ .before)) (before′ .loop-test .taken) (if1′ .if1 .taken) (request-at′ .request-at .result) (request-at′ .request-at .ensures) _ (complete′ .complete .ensures)
 
 loop-again : tie.Need-loop-again Inv-loop μ-loop
 loop-again c =
-    let a = c .before .before .before .before .before .before .before .before .before .before .before .before .before .before .before .before .before .before .before .before .before .before .before .before .before .before .before .before .before .before .before .args in
-    let l = c .before .before .before .before .before .before .before .before .before .before .before .before .before .loop in
-    (λ r i. completes (a .setup) r (now (a .entries)) (now (a .requests)) (priceStage (l .p) (rival (l .blocks) (l .held) (l .marks))) (l .inv .0 r i) (c .before .before .before .before .before .before .before .before .before .before .before .before .loop-test .taken) (c .before .before .before .before .before .before .before .before .before .before .before .if1 .taken) (c .before .before .before .before .before .before .before .before .before .before .request-at .result) (c .before .before .before .before .before .before .before .before .before .before .request-at .ensures) _ (c .before .before .before .before .before .before .complete .ensures), search needs, search needs, search needs)
+    let complete′ = c .before .before .before .before .before .before in
+    let request-at′ = complete′ .before .before .before .before in
+    let if1′ = request-at′ .before in
+    let loop-test′ = if1′ .before in
+    let loop′ = loop-test′ .before in
+    let start = loop′ .before .before .before .before .before .before .before .before .before .before .before .before .before .before .before .before .before .before in
+    let a = start .args in
+    (λ r i. completes (a .setup) r (now (a .entries)) (now (a .requests)) (priceStage (loop′ .loop .p) (rival (loop′ .loop .blocks) (loop′ .loop .held) (loop′ .loop .marks))) (loop′ .loop .inv .0 r i) (loop-test′ .loop-test .taken) (if1′ .if1 .taken) (request-at′ .request-at .result) (request-at′ .request-at .ensures) _ (complete′ .complete .ensures), search needs, search needs, search needs)
 
 entry-at-requires : tie.Need-entry-at-requires Inv-loop μ-loop
 entry-at-requires c κs =
-    let a = c .before .before .before .before .before .before .before .before .before .before .before .before .before .before .before .before .before .before .before .before .args in
-    let l = c .before .before .loop in
-    entry-within (a .setup) (rival (now (a .blocks)) (now (a .held)) (now (a .marks))) (now (a .entries)) (now (a .requests)) (priceStage (l .p) (rival (l .blocks) (l .held) (l .marks))) (here (c .before .before)) (c .before .loop-test .taken) (c .if1 .left)
+    let loop′ = c .before .before in
+    let start = loop′ .before .before .before .before .before .before .before .before .before .before .before .before .before .before .before .before .before .before in
+    let a = start .args in
+    entry-within (a .setup) (rival (now (a .blocks)) (now (a .held)) (now (a .marks))) (now (a .entries)) (now (a .requests)) (priceStage (loop′ .loop .p) (rival (loop′ .loop .blocks) (loop′ .loop .held) (loop′ .loop .marks))) (here (c .before .before)) (c .before .loop-test .taken) (c .if1 .left)
 
 take-requires : tie.Need-take-requires Inv-loop μ-loop
 take-requires c κs =
-    here (c .before .before .before .before .before .before) .goes (c .before .before .before .before .before .loop-test .taken) .ready
+    let before′ = c .before .before .before .before .before in
+    here (before′ .before) .goes (before′ .loop-test .taken) .ready
 
 loop-less-2 : tie.Need-loop-less-2 Inv-loop μ-loop
 loop-less-2 c =
-    let a = c .before .before .before .before .before .before .before .before .before .before .before .before .before .before .before .before .before .before .before .before .before .before .before .before .before .before .before .before .before .before .before .args in
-    let l = c .before .before .before .before .before .before .before .before .before .before .before .before .before .loop in
-    takes-falls (a .setup) (rival (now (a .blocks)) (now (a .held)) (now (a .marks))) (now (a .entries)) (now (a .requests)) (priceStage (l .p) (rival (l .blocks) (l .held) (l .marks))) (here (c .before .before .before .before .before .before .before .before .before .before .before .before .before)) (c .before .before .before .before .before .before .before .before .before .before .before .before .loop-test .taken) (c .before .before .before .before .before .before .before .before .before .before .before .if1 .left) (c .before .before .before .before .before .before .before .before .before .before .entry-at .result) (c .before .before .before .before .before .before .before .before .before .before .entry-at .ensures) _ (c .before .before .before .before .before .before .take .ensures)
+    let take′ = c .before .before .before .before .before .before in
+    let entry-at′ = take′ .before .before .before .before in
+    let if1′ = entry-at′ .before in
+    let before′ = if1′ .before in
+    let loop′ = before′ .before in
+    let start = loop′ .before .before .before .before .before .before .before .before .before .before .before .before .before .before .before .before .before .before in
+    let a = start .args in
+    takes-falls (a .setup) (rival (now (a .blocks)) (now (a .held)) (now (a .marks))) (now (a .entries)) (now (a .requests)) (priceStage (loop′ .loop .p) (rival (loop′ .loop .blocks) (loop′ .loop .held) (loop′ .loop .marks))) (here (before′ .before)) (before′ .loop-test .taken) (if1′ .if1 .left) (entry-at′ .entry-at .result) (entry-at′ .entry-at .ensures) _ (take′ .take .ensures)
 
 loop-again-2 : tie.Need-loop-again-2 Inv-loop μ-loop
 loop-again-2 c =
-    let a = c .before .before .before .before .before .before .before .before .before .before .before .before .before .before .before .before .before .before .before .before .before .before .before .before .before .before .before .before .before .before .before .args in
-    let l = c .before .before .before .before .before .before .before .before .before .before .before .before .before .loop in
-    (λ r i. takes (a .setup) r (now (a .entries)) (now (a .requests)) (priceStage (l .p) (rival (l .blocks) (l .held) (l .marks))) (l .inv .0 r i) (c .before .before .before .before .before .before .before .before .before .before .before .before .loop-test .taken) (c .before .before .before .before .before .before .before .before .before .before .before .if1 .left) (c .before .before .before .before .before .before .before .before .before .before .entry-at .result) (c .before .before .before .before .before .before .before .before .before .before .entry-at .ensures) _ (c .before .before .before .before .before .before .take .ensures), search needs, search needs, search needs)
+    let take′ = c .before .before .before .before .before .before in
+    let entry-at′ = take′ .before .before .before .before in
+    let if1′ = entry-at′ .before in
+    let loop-test′ = if1′ .before in
+    let loop′ = loop-test′ .before in
+    let start = loop′ .before .before .before .before .before .before .before .before .before .before .before .before .before .before .before .before .before .before in
+    let a = start .args in
+    (λ r i. takes (a .setup) r (now (a .entries)) (now (a .requests)) (priceStage (loop′ .loop .p) (rival (loop′ .loop .blocks) (loop′ .loop .held) (loop′ .loop .marks))) (loop′ .loop .inv .0 r i) (loop-test′ .loop-test .taken) (if1′ .if1 .left) (entry-at′ .entry-at .result) (entry-at′ .entry-at .ensures) _ (take′ .take .ensures), search needs, search needs, search needs)
 
 returns : tie.Need-returns Inv-loop μ-loop
 returns c =
-    let a = c .before .before .before .before .before .before .before .before .before .before .before .before .before .before .before .before .before .before .before .args in
-    let l = c .before .loop in
-    inv-end (a .setup) (rival (now (a .blocks)) (now (a .held)) (now (a .marks))) (entriesOf (now (a .entries))) (requestsOf (now (a .requests))) (priceStage (l .p) (rival (l .blocks) (l .held) (l .marks))) (here (c .before)) (c .loop-test .left)
+    let start = c .before .before .before .before .before .before .before .before .before .before .before .before .before .before .before .before .before .before .before in
+    let a = start .args in
+    inv-end (a .setup) (rival (now (a .blocks)) (now (a .held)) (now (a .marks))) (entriesOf (now (a .entries))) (requestsOf (now (a .requests))) (priceStage (c .before .loop .p) (rival (c .before .loop .blocks) (c .before .loop .held) (c .before .loop .marks))) (here (c .before)) (c .loop-test .left)
 
 pub price-spec : {M : Type 1} → statement M
 price-spec =
