@@ -7,7 +7,6 @@ use native.Mathlib.Omega.{arith}
 use lib.Dec.{ltb}
 use Rattle.types.specs.Refusals.{noRefusal, accountFull}
 use Rattle.types.specs.Board.{setupRefusal}
-use Rattle.protocol.specs.Tables.{Tables}
 use Rattle.protocol.specs.Soundness.{Sound}
 use Rattle.types.specs.Conditions.{Valid, requestLimit, requestRefusal}
 use Rattle.protocol.specs.Accounts.{freshAccount}
@@ -20,7 +19,7 @@ use Rattle.protocol.proofs.Checked.{sound-passes, sized-passes}
 use Rattle.protocol.proofs.Accounts.{Possible, is-possible}
 use Rattle.types.proofs.Conditions.{named-choice, request-passed}
 use Rattle.protocol.proofs.Requests.{bill-spent}
-use Rattle.protocol.proofs.Engines.{Neither20Nor21, Serving, Lawful}
+use Rattle.protocol.proofs.Engines.{Neither20Nor21, Lawful}
 use Rattle.competitive.proofs.StepSound.{sound-served}
 
 pub fresh-possible : (s : Setup) → Possible s freshAccount

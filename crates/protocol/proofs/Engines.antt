@@ -1,6 +1,6 @@
 -- What any list of runs of any lawful engine leaves: the account grows by what the rules charge for the requests taken,
 -- the values are the expected ones, and neither 20 nor 21 is met.
-use Prim.Native.Nat.{ℕ, suc, _+_, _*_, _≤_, _<_}
+use Prim.Native.Nat.{ℕ, suc, _+_, _<_}
 use mathlib.Core.Path.{_≡_, refl, sym, ap, _∙_}
 use mathlib.Core.Logic.{_≢_}
 use mathlib.Core.Bool.{Bool, true, false, cond}

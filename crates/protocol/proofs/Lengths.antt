@@ -8,7 +8,7 @@ use lib.Dec.{ltb, eqb}
 use Rattle.types.specs.Lists.{at}
 use Rattle.types.specs.Board.{variables, slots, slot, wordIndex, blockOf, offsetOf}
 use Rattle.protocol.specs.Tables.{Tables, tables, Sized, fresh, counter, holds, sharing, marked}
-use Rattle.protocol.specs.Rules.{writtenBack, emptied, filled, saved, evicted, owner, released, fetched, obtained, payer, writtenAlone, updatedCopies, broadcast, charged, written}
+use Rattle.protocol.specs.Rules.{writtenBack, emptied, filled, saved, evicted, owner, released, fetched, obtained, writtenAlone, updatedCopies, broadcast, charged, written}
 use Rattle.protocol.specs.Requests.{servedBy, served}
 use Rattle.types.specs.declared.Setup.{Setup}
 use Rattle.types.specs.declared.Block.{Block}

@@ -1,24 +1,17 @@
 -- Laws of one request: what it can cost.
-use Prim.Native.Nat.{ℕ, _≤_, _<_}
-use mathlib.Core.Path.{_≡_}
-use mathlib.Core.Bool.{cond}
+use Prim.Native.Nat.{ℕ, _≤_}
 use native.Mathlib.Omega.{arith}
-use lib.Dec.{ltb}
-use borrow.Author.Tests.{ltb-true, lt-ltb}
-use Rattle.types.specs.Refusals.{noRefusal, noSuchProcessor, noSuchVariable, accountFull}
-use Rattle.types.specs.Board.{Fits, variables, slot, blockOf, fetchPrice, writeBackPrice, mostWriteBack}
+use Rattle.types.specs.Board.{Fits, slot, blockOf, fetchPrice, writeBackPrice, mostWriteBack}
 use Rattle.protocol.specs.Tables.{Tables, holds, sharing, marked}
 use Rattle.protocol.specs.Rules.{saveCycles, fetchCycles, writeBackCycles, obtained, updateCycles}
 use Rattle.protocol.specs.Accounts.{Spent}
-use Rattle.types.specs.Conditions.{Named, Valid, requestLimit, variableRefusal, namedRefusal, requestRefusal}
 use Rattle.protocol.specs.Requests.{billBy, bill}
 use Rattle.types.specs.declared.Setup.{Setup}
-use Rattle.types.specs.declared.Variable.{Variable}
 use Rattle.types.specs.declared.Block.{Block}
 use Rattle.types.specs.declared.Request.{Request}
 use Rattle.types.specs.declared.Operation.{Operation}
 use Rattle.types.specs.declared.Operation.the-variants.{Read, Write}
-use Rattle.types.proofs.Laws.{choice, chosen-zero}
+use Rattle.types.proofs.Laws.{choice}
 
 -- ---- the bill
 

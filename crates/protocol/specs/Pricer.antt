@@ -5,7 +5,7 @@ use mathlib.Core.List.{List, [], _∷_}
 use lib.ListN.{length}
 use lib.Dec.{leb, eqb}
 use Rattle.types.specs.Refusals.{noRefusal, unless, firstOf, wrongLength, tooMany}
-use Rattle.types.specs.Board.{setupRefusal, slots}
+use Rattle.types.specs.Board.{setupRefusal}
 use Rattle.protocol.specs.Accounts.{nothing, plus, cycles}
 use Rattle.protocol.specs.Rival.{Rival, rivalSized, noCopies, played, left, cost, refusal, endRefusal}
 use Rattle.types.specs.declared.Setup.{Setup}

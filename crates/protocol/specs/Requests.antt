@@ -1,14 +1,10 @@
 -- One request: the tables after it, its value, and its bill (document 01, "What one request does").
-use Prim.Native.Nat.{ℕ, _<_}
-use mathlib.Core.List.{List}
-use lib.Dec.{ltb}
+use Prim.Native.Nat.{ℕ}
 use Rattle.types.specs.Lists.{Each}
-use Rattle.types.specs.Refusals.{noRefusal, unless, noSuchProcessor, noSuchVariable, accountFull}
-use Rattle.types.specs.Board.{variables, blockOf, offsetOf, slot}
+use Rattle.types.specs.Board.{blockOf, offsetOf, slot}
 use Rattle.protocol.specs.Tables.{Tables, word}
 use Rattle.protocol.specs.Rules.{obtained, fetchCycles, writeBackCycles, written, updateCycles}
 use Rattle.types.specs.declared.Setup.{Setup}
-use Rattle.types.specs.declared.Variable.{Variable}
 use Rattle.types.specs.declared.Request.{Request}
 use Rattle.types.specs.declared.Operation.{Operation}
 use Rattle.types.specs.declared.Operation.the-variants.{Read, Write}

@@ -6,7 +6,7 @@ use mathlib.Core.List.{List}
 use native.Mathlib.Omega.{arith}
 use lib.Dec.{eqb}
 use borrow.Author.Tests.{eq-eqb, ne-eqb}
-use Rattle.types.specs.Refusals.{noRefusal, wrongLength}
+use Rattle.types.specs.Refusals.{noRefusal}
 use Rattle.types.specs.Board.{slots}
 use Rattle.protocol.specs.Tables.{Tables, sized, fresh}
 use Rattle.protocol.specs.Accounts.{freshAccount}

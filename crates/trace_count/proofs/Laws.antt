@@ -1,11 +1,11 @@
 -- What a line makes of a count: the count can go on after it, and what each function returns is `lineCounted`. From `request-passed` (a
 -- request that is not refused is valid, and there is room for it), `bill-spent` (what it can cost) and `usable-served` (what it leaves).
-use Prim.Native.Nat.{ℕ, _+_, _<_}
+use Prim.Native.Nat.{ℕ, _+_}
 use mathlib.Core.Path.{_≡_, refl, ap, _∙_}
 use mathlib.Core.Bool.{false}
 use native.Mathlib.Omega.{arith}
 use lib.Dec.{eqb}
-use borrow.Author.Tests.{eqb-true, eq-eqb, ne-eqb}
+use borrow.Author.Tests.{eqb-true, ne-eqb}
 use Rattle.types.specs.Refusals.{noRefusal}
 use Rattle.protocol.specs.Tables.{Tables}
 use Rattle.types.specs.Conditions.{requestRefusal}

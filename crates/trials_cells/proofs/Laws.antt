@@ -1,14 +1,12 @@
 -- The cases of the definitions that test a number, and the next turn of those that go over n cells.
 -- Assumes nothing.
 use mathlib.Core.Path.{_≡_, refl}
-use mathlib.Core.Bool.{cond}
 use mathlib.Core.List.{List}
 use Prim.Native.Nat.{ℕ, _+_, _*_, _/_, _%_, _<_, _≤_}
 use native.Mathlib.Nat.{le-of-lt, lt-of-le-of-lt, mul-le-mul-left, mul-lt-mul-of-pos-right}
 use native.Mathlib.Numerals.{add-one}
 use native.Mathlib.Omega.{arith}
 use borrow.Author.Tests.{eq-eqb, ne-eqb, lt-ltb, le-ltb}
-use lib.Dec.{eqb, ltb}
 use lib.ListN.{getD, set}
 use Rattle.trials_cells.specs.Cells.{size, unlike, summed, multiplied, divided, reduced, cell, with, wiped, copied, differing}
 use Rattle.trials_cells.specs.State.{following, added, countPlace, judged, totalled}

@@ -23,10 +23,6 @@ module _ (n m : ℕ) where
       go true h = let p = eqb-true _ _ h in (p, sym (first-passes p) ∙ e)
       go false h = let p = sym (first-refuses (eqb-false _ _ h)) ∙ e in absurd (eqb-false _ _ h p)
 
--- what a number that code got tells of the conditions that it stands for
-module _ (n r : ℕ) (is-n : r ≡ n) where
-  pub code-refuses : r ≢ noRefusal → eqb n noRefusal ≡ false
-  code-refuses d = ne-eqb n noRefusal (λ e. d (is-n ∙ e))
-
-  pub code-passes : r ≡ noRefusal → eqb n noRefusal ≡ true
-  code-passes e = eq-eqb n noRefusal (sym is-n ∙ e)
+-- what a number that code got, and that refuses, tells of the conditions that it stands for
+pub code-refuses : (n r : ℕ) → r ≡ n → r ≢ noRefusal → eqb n noRefusal ≡ false
+code-refuses n r is-n d = ne-eqb n noRefusal (λ e. d (is-n ∙ e))
