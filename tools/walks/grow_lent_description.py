@@ -12,7 +12,7 @@ from counting import Counting
 ROOT = sys.argv[1] if len(sys.argv) > 1 else os.path.dirname(os.path.dirname(os.path.dirname(os.path.abspath(__file__))))
 CRATE = 'run_progress'
 
-Account = Kind('Account', 'types')
+Account = Kind('Account', 'protocol_types')
 
 grow_lent = Counting(CRATE, 'grow_lent', (CRATE, 'grow'), Account, Account, 'GrowthFits', 'grown', [(CRATE, 'Progress', ['grown', 'GrowthFits'])])
 

@@ -12,8 +12,8 @@ from loop import Loop
 ROOT = sys.argv[1] if len(sys.argv) > 1 else os.path.dirname(os.path.dirname(os.path.dirname(os.path.abspath(__file__))))
 HERE, KIT = 'rival_pricer', 'walks'
 
-Setup, Request = (Kind(n, 'types') for n in ('Setup', 'Request'))
-Entry, PriceAnswer = (Kind(n, 'types', True) for n in ('Entry', 'PriceAnswer'))
+Setup, Request = (Kind(n, 'protocol_types') for n in ('Setup', 'Request'))
+Entry, PriceAnswer = (Kind(n, 'protocol_types', True) for n in ('Entry', 'PriceAnswer'))
 Pricing = Kind('Pricing', 'rival_pricing')
 usize = Kind('usize')
 
@@ -58,7 +58,7 @@ price = Loop(
                inv='inv-took %s go flag' % at_turn, falls='falls-took %s go flag' % at_turn, within='at-entry %s go' % at_turn)],
     done='(s .progress .answer ≡ priced %s) × (s .copies ≡ priceTables %s)' % (whole, whole), done_is='inv-end %s stopped' % at_turn,
     inv_params=['setup'] + BUFFERS + ['entries', 'requests'], inv=inv,
-    laws=[('types', 'Conditions', ['no-request']), (HERE, 'Loop', ['no-entry', 'Inv', 'μ', 'inv-start', 'inv-took', 'falls-took', 'inv-completed', 'falls-completed', 'at-entry', 'at-request', 'due', 'inv-end'])],
+    laws=[('protocol_types', 'Conditions', ['no-request']), (HERE, 'Loop', ['no-entry', 'Inv', 'μ', 'inv-start', 'inv-took', 'falls-took', 'inv-completed', 'falls-completed', 'at-entry', 'at-request', 'due', 'inv-end'])],
     cites=[RIVAL_SPEC, ('protocol', 'Pricer', ['price as priced', 'priceTables']), stages('priceBegun', 'took', 'completed')],
     small=None)
 

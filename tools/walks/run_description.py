@@ -15,7 +15,7 @@ ROOT = sys.argv[1] if len(sys.argv) > 1 else os.path.dirname(os.path.dirname(os.
 HERE, KIT = 'run', 'walks'
 PROGRESS, STEPS = 'run_progress', 'run_steps'
 
-Setup, Account, Request, RunAnswer = (Kind(n, 'types') for n in ('Setup', 'Account', 'Request', 'RunAnswer'))
+Setup, Account, Request, RunAnswer = (Kind(n, 'protocol_types') for n in ('Setup', 'Account', 'Request', 'RunAnswer'))
 Progress = Kind('Progress', PROGRESS)
 usize = Kind('usize')
 
@@ -56,7 +56,7 @@ run = Loop(
     done='outcome (s .progress .answer) (s .tables) (grown account (growthOf (s .progress))) (s .values) ≡ ran (engine setup) %s account requests values' % lent,
     done_is='inv-end %s stopped' % at_turn,
     inv_params=['setup'] + TABLES + ['account', 'requests', 'values'], inv=inv,
-    laws=[('types', 'Conditions', ['no-request']), (STEPS, 'Loop', ['Inv', 'μ', 'inv-start', 'inv-turn', 'inv-falls', 'inv-within', 'inv-room', 'inv-count', 'inv-end'])],
+    laws=[('protocol_types', 'Conditions', ['no-request']), (STEPS, 'Loop', ['Inv', 'μ', 'inv-start', 'inv-turn', 'inv-falls', 'inv-within', 'inv-room', 'inv-count', 'inv-end'])],
     cites=[TABLES_SPEC, ('protocol', 'Engines', ['run as ran']), RUNS_SPEC, (PROGRESS, 'Progress', ['RunStage', 'runStage', 'begun', 'turned', 'grown', 'growthOf', 'outcome'])],
     small=(Account, ['requests', 'fetch', 'write_back', 'update']))
 

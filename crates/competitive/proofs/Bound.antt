@@ -9,26 +9,26 @@ use native.Mathlib.Nat.{le-refl}
 use lib.ListN.{set}
 use lib.Dec.{ltb, eqb}
 use borrow.Author.Tests.{eqb-true, eq-eqb}
-use Rattle.types.specs.Lists.{at}
-use Rattle.types.specs.Refusals.{noRefusal, lineInUse, blockNotHeld, dropOfMarked}
-use Rattle.types.specs.Board.{Fits, slots, slot, blockOf, offsetOf, fetchPrice}
+use Rattle.protocol_types.specs.Lists.{at}
+use Rattle.protocol_types.specs.Refusals.{noRefusal, lineInUse, blockNotHeld, dropOfMarked}
+use Rattle.protocol_types.specs.Board.{Fits, slots, slot, blockOf, offsetOf, fetchPrice}
 use Rattle.protocol.specs.Tables.{Tables, Sized, counter, block, holdsAt, holds, sharing, marked}
 use Rattle.protocol.specs.Soundness.{Sound}
 use Rattle.protocol.specs.Rules.{writtenBack, emptied, filled, saved, evicted, owner, released, fetched, obtained, payer, writtenAlone, broadcast, charged, written}
-use Rattle.types.specs.Conditions.{Named}
+use Rattle.protocol_types.specs.Conditions.{Named}
 use Rattle.protocol.specs.Requests.{servedBy, served}
 use Rattle.protocol.specs.Rival.{Rival, RivalSized, keepsAt, keeps, shared, rivalFetched, rivalWrittenBack, rivalDropped, rivalCompleted, completionBy, completionCycles, Legal, costs}
-use Rattle.types.specs.declared.Setup.{Setup}
-use Rattle.types.specs.declared.Variable.{Variable}
-use Rattle.types.specs.declared.Block.{Block}
-use Rattle.types.specs.declared.Request.{Request}
-use Rattle.types.specs.declared.Operation.{Operation}
-use Rattle.types.specs.declared.Operation.the-variants.{Read, Write}
-use Rattle.types.specs.declared.Bill.{Bill}
-use Rattle.types.specs.declared.Entry.{Entry}
-use Rattle.types.specs.declared.Entry.the-variants.{Fetch, WriteBack, Drop, Complete, CompleteByBroadcast}
-use Rattle.types.proofs.Laws.{Known, sure, not-so, known, choice, chosen-zero, agree, both-true, and-true, other-some, at-set-same, at-set-other, at-set-zero}
-use Rattle.types.proofs.Board.{block-path, block-number, slot-lt, slot-inj, offset-lt, block-lt}
+use Rattle.protocol_types.specs.declared.Setup.{Setup}
+use Rattle.protocol_types.specs.declared.Variable.{Variable}
+use Rattle.protocol_types.specs.declared.Block.{Block}
+use Rattle.protocol_types.specs.declared.Request.{Request}
+use Rattle.protocol_types.specs.declared.Operation.{Operation}
+use Rattle.protocol_types.specs.declared.Operation.the-variants.{Read, Write}
+use Rattle.protocol_types.specs.declared.Bill.{Bill}
+use Rattle.protocol_types.specs.declared.Entry.{Entry}
+use Rattle.protocol_types.specs.declared.Entry.the-variants.{Fetch, WriteBack, Drop, Complete, CompleteByBroadcast}
+use Rattle.protocol_types.proofs.Laws.{Known, sure, not-so, known, choice, chosen-zero, agree, both-true, and-true, other-some, at-set-same, at-set-other, at-set-zero}
+use Rattle.protocol_types.proofs.Board.{block-path, block-number, slot-lt, slot-inj, offset-lt, block-lt}
 use Rattle.protocol.proofs.Holding.{holdsAt-false, holder-slot, payer-below, payer-found}
 use Rattle.protocol.proofs.Lengths.{block-stored, counter-stored, sized-evicted, sized-released, sized-broadcast}
 use Rattle.protocol.proofs.Rival.{move-legal, Completable, Completion, completion-legal, sized-played}

@@ -3,19 +3,19 @@ use mathlib.Core.Path.{_≡_}
 use mathlib.Core.Bool.{true}
 use mathlib.Core.List.{List}
 use native.Mathlib.Omega.{arith}
-use Rattle.types.specs.Refusals.{noRefusal}
-use Rattle.types.specs.Board.{setupRefusal}
+use Rattle.protocol_types.specs.Refusals.{noRefusal}
+use Rattle.protocol_types.specs.Board.{setupRefusal}
 use Rattle.protocol.specs.Tables.{fresh}
 use Rattle.protocol.specs.Soundness.{Sound}
-use Rattle.types.specs.Conditions.{Valid}
+use Rattle.protocol_types.specs.Conditions.{Valid}
 use Rattle.protocol.specs.Accounts.{possible}
 use Rattle.protocol.specs.Engines.{Run, takenAll}
 use Rattle.protocol.specs.Runs.{engine}
 use Rattle.competitive.specs.Claims.{Claim}
-use Rattle.types.specs.declared.Setup.{Setup}
-use Rattle.types.specs.declared.Request.{Request}
-use Rattle.types.specs.declared.Account.{Account}
-use Rattle.types.proofs.Board.{setup-fits}
+use Rattle.protocol_types.specs.declared.Setup.{Setup}
+use Rattle.protocol_types.specs.declared.Request.{Request}
+use Rattle.protocol_types.specs.declared.Account.{Account}
+use Rattle.protocol_types.proofs.Board.{setup-fits}
 use Rattle.protocol.proofs.Accounts.{possible-is}
 use Rattle.protocol.proofs.Engines.{runs-left}
 use Rattle.competitive.proofs.Fresh.{sound-fresh}

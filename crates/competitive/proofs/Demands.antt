@@ -1,9 +1,9 @@
 -- The demands hold of every setup that is not refused.
 use mathlib.Core.Path.{_≡_}
-use Rattle.types.specs.Refusals.{noRefusal}
-use Rattle.types.specs.Board.{setupRefusal}
+use Rattle.protocol_types.specs.Refusals.{noRefusal}
+use Rattle.protocol_types.specs.Board.{setupRefusal}
 use Rattle.competitive.specs.Claims.{Demands}
-use Rattle.types.specs.declared.Setup.{Setup}
+use Rattle.protocol_types.specs.declared.Setup.{Setup}
 use Rattle.competitive.proofs.Claim.{claim}
 use Rattle.competitive.proofs.Tight.{tight-list}
 use Rattle.competitive.proofs.LastValues.{last-values}

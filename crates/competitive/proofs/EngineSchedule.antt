@@ -9,30 +9,30 @@ use lib.ListN.{set, List·getD-map}
 use lib.Seq.{set-getD, map-set-same, ext-getD}
 use lib.Dec.{ltb, eqb}
 use borrow.Author.Tests.{ltb-true, lt-ltb, eqb-true, eqb-false}
-use Rattle.types.specs.Lists.{at, zeros, other}
-use Rattle.types.specs.Refusals.{noRefusal}
-use Rattle.types.specs.Board.{Fits, setupRefusal, variables, slots, slot, lineOf, blockOf, offsetOf, fetchPrice, writeBackPrice}
+use Rattle.protocol_types.specs.Lists.{at, zeros, other}
+use Rattle.protocol_types.specs.Refusals.{noRefusal}
+use Rattle.protocol_types.specs.Board.{Fits, setupRefusal, variables, slots, slot, lineOf, blockOf, offsetOf, fetchPrice, writeBackPrice}
 use Rattle.protocol.specs.Tables.{Tables, tables, fresh, counter, block, mark, holdsAt, holds, sharing, marked}
 use Rattle.protocol.specs.Soundness.{Sound}
 use Rattle.protocol.specs.Rules.{writtenBack, emptied, filled, saved, saveCycles, evicted, owner, released, fetched, obtained, fetchCycles, writeBackCycles, payer, writtenAlone, broadcast, charged, written, updateCycles}
-use Rattle.types.specs.Conditions.{Named, Valid, AllValid}
+use Rattle.protocol_types.specs.Conditions.{Named, Valid, AllValid}
 use Rattle.protocol.specs.Requests.{servedBy, served, billBy, bill}
 use Rattle.protocol.specs.Accounts.{nothing, plus}
 use Rattle.protocol.specs.Engines.{Run, takenAll, servedAll, spent}
 use Rattle.protocol.specs.Runs.{engine}
 use Rattle.protocol.specs.Rival.{Rival, rival, noCopies, keepsAt, keeps, shared, unmarked, rivalFetched, rivalWrittenBack, rivalDropped, rivalCompleted, completionCycles, played, left, cost, refusal, moveRefusal, Legal, costs, lastCopies}
 use Rattle.competitive.specs.EngineSchedule.{saving, evicting, obtaining, paying, servingBy, serving, engineSchedule, EngineIsRival}
-use Rattle.types.specs.declared.Setup.{Setup}
-use Rattle.types.specs.declared.Variable.{Variable}
-use Rattle.types.specs.declared.Block.{Block}
-use Rattle.types.specs.declared.Request.{Request}
-use Rattle.types.specs.declared.Operation.{Operation}
-use Rattle.types.specs.declared.Operation.the-variants.{Read, Write}
-use Rattle.types.specs.declared.Bill.{Bill}
-use Rattle.types.specs.declared.Entry.{Entry}
-use Rattle.types.specs.declared.Entry.the-variants.{Fetch, WriteBack, Drop, Complete}
-use Rattle.types.proofs.Laws.{Same, same, apart, same?, Under, under, over, under?, Known, sure, not-so, known, choice, at-set-other, at-set-zero}
-use Rattle.types.proofs.Board.{block-path, block-number, setup-fits, row-lt, row-mod, line-lt, slot-lt, slot-inj, processor-lt, offset-lt, block-lt}
+use Rattle.protocol_types.specs.declared.Setup.{Setup}
+use Rattle.protocol_types.specs.declared.Variable.{Variable}
+use Rattle.protocol_types.specs.declared.Block.{Block}
+use Rattle.protocol_types.specs.declared.Request.{Request}
+use Rattle.protocol_types.specs.declared.Operation.{Operation}
+use Rattle.protocol_types.specs.declared.Operation.the-variants.{Read, Write}
+use Rattle.protocol_types.specs.declared.Bill.{Bill}
+use Rattle.protocol_types.specs.declared.Entry.{Entry}
+use Rattle.protocol_types.specs.declared.Entry.the-variants.{Fetch, WriteBack, Drop, Complete}
+use Rattle.protocol_types.proofs.Laws.{Same, same, apart, same?, Under, under, over, under?, Known, sure, not-so, known, choice, at-set-other, at-set-zero}
+use Rattle.protocol_types.proofs.Board.{block-path, block-number, setup-fits, row-lt, row-mod, line-lt, slot-lt, slot-inj, processor-lt, offset-lt, block-lt}
 use Rattle.protocol.proofs.Holding.{holdsAt-true, true-holdsAt, holder-slot, payer-below, payer-found, owner-found}
 use Rattle.protocol.proofs.Engines.{all-valid}
 use Rattle.protocol.proofs.Rival.{legal-completion, length-unmarked}

@@ -1,11 +1,11 @@
 -- Fresh tables are sound.
 use Prim.Native.Nat.{_*_}
 use native.Mathlib.Omega.{arith}
-use Rattle.types.specs.Board.{slots, wordIndex}
+use Rattle.protocol_types.specs.Board.{slots, wordIndex}
 use Rattle.protocol.specs.Tables.{fresh}
 use Rattle.protocol.specs.Soundness.{Sound}
-use Rattle.types.specs.declared.Setup.{Setup}
-use Rattle.types.proofs.Laws.{at-zeros}
+use Rattle.protocol_types.specs.declared.Setup.{Setup}
+use Rattle.protocol_types.proofs.Laws.{at-zeros}
 use Rattle.protocol.proofs.Lengths.{sized-fresh}
 use Rattle.competitive.proofs.Sound.{empty-line}
 

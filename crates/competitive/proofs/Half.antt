@@ -4,7 +4,7 @@ use mathlib.Core.Path.{_≡_, refl}
 use mathlib.Core.Bool.{Bool, true, false, cond}
 use mathlib.Core.List.{List, [], _∷_}
 use native.Mathlib.Omega.{arith}
-use Rattle.types.specs.Board.{Fits, slots, slot, blockOf, fetchPrice, writeBackPrice}
+use Rattle.protocol_types.specs.Board.{Fits, slots, slot, blockOf, fetchPrice, writeBackPrice}
 use Rattle.protocol.specs.Tables.{Tables, fresh, holds, sharing, marked}
 use Rattle.protocol.specs.Rules.{saveCycles, obtained, fetchCycles, writeBackCycles, updateCycles}
 use Rattle.protocol.specs.Requests.{served, billBy, bill}
@@ -12,13 +12,13 @@ use Rattle.protocol.specs.Accounts.{cycles}
 use Rattle.protocol.specs.Engines.{spent}
 use Rattle.protocol.specs.Runs.{engine}
 use Rattle.protocol.specs.Rival.{noCopies, Legal, costs}
-use Rattle.types.specs.declared.Setup.{Setup}
-use Rattle.types.specs.declared.Block.{Block}
-use Rattle.types.specs.declared.Request.{Request}
-use Rattle.types.specs.declared.Operation.{Operation}
-use Rattle.types.specs.declared.Operation.the-variants.{Read, Write}
-use Rattle.types.specs.declared.Entry.{Entry}
-use Rattle.types.proofs.Laws.{both, at-zeros}
+use Rattle.protocol_types.specs.declared.Setup.{Setup}
+use Rattle.protocol_types.specs.declared.Block.{Block}
+use Rattle.protocol_types.specs.declared.Request.{Request}
+use Rattle.protocol_types.specs.declared.Operation.{Operation}
+use Rattle.protocol_types.specs.declared.Operation.the-variants.{Read, Write}
+use Rattle.protocol_types.specs.declared.Entry.{Entry}
+use Rattle.protocol_types.proofs.Laws.{both, at-zeros}
 use Rattle.protocol.proofs.Rival.{sized-noCopies}
 use Rattle.competitive.proofs.Sums.{sum-zero}
 use Rattle.competitive.proofs.Fresh.{sound-fresh}

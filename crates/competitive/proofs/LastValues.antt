@@ -1,18 +1,18 @@
 -- Demand 2 over whole runs: the values that a list of runs leaves, and that none of them is refused by 20 or 21 (protocol's Engines).
 use mathlib.Core.Path.{_≡_}
 use mathlib.Core.List.{List, []}
-use Rattle.types.specs.Refusals.{noRefusal}
-use Rattle.types.specs.Board.{Fits, setupRefusal}
+use Rattle.protocol_types.specs.Refusals.{noRefusal}
+use Rattle.protocol_types.specs.Board.{Fits, setupRefusal}
 use Rattle.protocol.specs.Tables.{fresh}
 use Rattle.protocol.specs.Soundness.{Sound}
-use Rattle.types.specs.Conditions.{Valid, AllValid}
+use Rattle.protocol_types.specs.Conditions.{Valid, AllValid}
 use Rattle.protocol.specs.Requests.{value}
 use Rattle.protocol.specs.Engines.{servedAll}
 use Rattle.protocol.specs.Runs.{engine}
 use Rattle.competitive.specs.Claims.{expectedValue, LastValues}
-use Rattle.types.specs.declared.Setup.{Setup}
-use Rattle.types.specs.declared.Request.{Request}
-use Rattle.types.proofs.Board.{setup-fits}
+use Rattle.protocol_types.specs.declared.Setup.{Setup}
+use Rattle.protocol_types.specs.declared.Request.{Request}
+use Rattle.protocol_types.proofs.Board.{setup-fits}
 use Rattle.protocol.proofs.Accounts.{possible-is}
 use Rattle.protocol.proofs.Engines.{runs-values}
 use Rattle.competitive.proofs.Fresh.{sound-fresh}

@@ -6,7 +6,7 @@ use mathlib.Core.Bool.{cond}
 use native.Mathlib.Omega.{arith}
 use lib.Dec.{eqb}
 use borrow.Author.Tests.{eqb-true, eqb-false, eq-eqb, ne-eqb}
-use Rattle.types.proofs.Laws.{Same, same, apart, same?, choice}
+use Rattle.protocol_types.proofs.Laws.{Same, same, apart, same?, choice}
 
 -- A potential of a slot: ψ w b h c for the engine's counter w and block b, the rival's held mark h and block c.
 -- f is a fetch's price. The engine is charged F for a fetch, W for a write-back, U for an update.

@@ -7,17 +7,17 @@ use native.Mathlib.Omega.{arith}
 use lib.ListN.{length}
 use lib.Dec.{eqb}
 use borrow.Author.Tests.{eqb-true, eq-eqb}
-use Rattle.types.specs.Refusals.{noRefusal}
+use Rattle.protocol_types.specs.Refusals.{noRefusal}
 use Rattle.protocol.specs.Accounts.{nothing, plus, cycles}
 use Rattle.protocol.specs.Rival.{Rival, noCopies, played, left, cost, refusal, Legal, costs, lastCopies}
 use Rattle.protocol.specs.Pricer.{Verdict, accepted, refused, judged, verdict, priceRefusal, answerTo, price, copiesAfter, priceTables}
 use Rattle.competitive.specs.Claims.{PricedRight}
-use Rattle.types.specs.declared.Setup.{Setup}
-use Rattle.types.specs.declared.Request.{Request}
-use Rattle.types.specs.declared.Bill.{Bill}
-use Rattle.types.specs.declared.Entry.{Entry}
-use Rattle.types.specs.declared.PriceAnswer.{PriceAnswer}
-use Rattle.types.specs.declared.PriceAnswer.the-variants.{Accepted, Refused}
+use Rattle.protocol_types.specs.declared.Setup.{Setup}
+use Rattle.protocol_types.specs.declared.Request.{Request}
+use Rattle.protocol_types.specs.declared.Bill.{Bill}
+use Rattle.protocol_types.specs.declared.Entry.{Entry}
+use Rattle.protocol_types.specs.declared.PriceAnswer.{PriceAnswer}
+use Rattle.protocol_types.specs.declared.PriceAnswer.the-variants.{Accepted, Refused}
 
 -- ---- the verdict
 

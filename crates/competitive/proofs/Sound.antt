@@ -7,16 +7,16 @@ use native.Mathlib.Omega.{arith}
 use lib.ListN.{length, set, length-replicate}
 use lib.Dec.{eqb}
 use borrow.Author.Tests.{eqb-false}
-use Rattle.types.specs.Lists.{at, zeros}
-use Rattle.types.specs.Board.{Fits, slots, slot, lineOf, wordIndex, memoryIndex, fetchPrice}
+use Rattle.protocol_types.specs.Lists.{at, zeros}
+use Rattle.protocol_types.specs.Board.{Fits, slots, slot, lineOf, wordIndex, memoryIndex, fetchPrice}
 use Rattle.protocol.specs.Tables.{Tables, tables, counter, block, mark, word, memoryWord, lineWords, memoryWords, holds}
 use Rattle.protocol.specs.Soundness.{SlotSound, SlotSoundAt, Sound}
 use Rattle.protocol.specs.Rules.{writtenBack, emptied, filled, updatedCopies, writtenAlone, broadcast, charged}
-use Rattle.types.specs.declared.Setup.{Setup}
-use Rattle.types.specs.declared.Block.{Block}
-use Rattle.types.proofs.Laws.{Same, same, apart, same?, choice, at-set-same, at-set-other, at-zeros}
-use Rattle.types.proofs.Board.{block-path, block-number, SameBlock, one, two, same-block?, slot-lt, slot-inj, wordIndex-inj, wordIndex-lt, processor-lt}
-use Rattle.types.proofs.Rows.{row-le, length-row, at-row, at-sets-row, at-sets-other}
+use Rattle.protocol_types.specs.declared.Setup.{Setup}
+use Rattle.protocol_types.specs.declared.Block.{Block}
+use Rattle.protocol_types.proofs.Laws.{Same, same, apart, same?, choice, at-set-same, at-set-other, at-zeros}
+use Rattle.protocol_types.proofs.Board.{block-path, block-number, SameBlock, one, two, same-block?, slot-lt, slot-inj, wordIndex-inj, wordIndex-lt, processor-lt}
+use Rattle.protocol_types.proofs.Rows.{row-le, length-row, at-row, at-sets-row, at-sets-other}
 use Rattle.protocol.proofs.Holding.{holder-slot, slot-holder}
 use Rattle.protocol.proofs.Lengths.{counter-stored, block-stored, mark-stored, length-updatedCopies, sized-writtenBack, sized-emptied, sized-filled, sized-writtenAlone, sized-broadcast, sized-recounted}
 

@@ -7,20 +7,20 @@ use native.Mathlib.Omega.{arith}
 use lib.ListN.{set}
 use lib.Dec.{ltb}
 use borrow.Author.Tests.{ltb-true, ltb-false, eqb-true}
-use Rattle.types.specs.Lists.{at}
-use Rattle.types.specs.Board.{Fits, slots, slot, lineOf, blockOf, offsetOf, fetchPrice}
+use Rattle.protocol_types.specs.Lists.{at}
+use Rattle.protocol_types.specs.Board.{Fits, slots, slot, lineOf, blockOf, offsetOf, fetchPrice}
 use Rattle.protocol.specs.Tables.{Tables, Sized, counter, block, mark, holdsAt, holds, sharing, marked}
 use Rattle.protocol.specs.Soundness.{Sound}
 use Rattle.protocol.specs.Rules.{writtenBack, filled, saved, evicted, owner, released, fetched, obtained, payer, broadcast, charged, written}
-use Rattle.types.specs.Conditions.{Named, Valid}
+use Rattle.protocol_types.specs.Conditions.{Named, Valid}
 use Rattle.protocol.specs.Requests.{servedBy, served}
-use Rattle.types.specs.declared.Setup.{Setup}
-use Rattle.types.specs.declared.Block.{Block}
-use Rattle.types.specs.declared.Request.{Request}
-use Rattle.types.specs.declared.Operation.{Operation}
-use Rattle.types.specs.declared.Operation.the-variants.{Read, Write}
-use Rattle.types.proofs.Laws.{Same, same, apart, same?, choice, at-set-other}
-use Rattle.types.proofs.Board.{block-path, block-number, slot-lt, slot-inj, offset-lt, block-lt, processor-lt, slot-proper}
+use Rattle.protocol_types.specs.declared.Setup.{Setup}
+use Rattle.protocol_types.specs.declared.Block.{Block}
+use Rattle.protocol_types.specs.declared.Request.{Request}
+use Rattle.protocol_types.specs.declared.Operation.{Operation}
+use Rattle.protocol_types.specs.declared.Operation.the-variants.{Read, Write}
+use Rattle.protocol_types.proofs.Laws.{Same, same, apart, same?, choice, at-set-other}
+use Rattle.protocol_types.proofs.Board.{block-path, block-number, slot-lt, slot-inj, offset-lt, block-lt, processor-lt, slot-proper}
 use Rattle.protocol.proofs.Holding.{true-holdsAt, holder-slot, slot-holder, sharing-none, payer-below, payer-found, owner-found, owner-none}
 use Rattle.protocol.proofs.Lengths.{block-stored, counter-stored, mark-stored, sized-evicted, sized-released}
 use Rattle.competitive.proofs.Sound.{sound-writtenBack, sound-emptied, sound-filled, sound-writtenAlone, sound-broadcast, sound-charged}

@@ -3,7 +3,7 @@ use Prim.Native.Nat.{ℕ, zero, suc, _+_, _≤_, _<_}
 use mathlib.Core.Path.{_≡_, refl, sym}
 use mathlib.Core.Logic.{_≢_}
 use native.Mathlib.Omega.{arith}
-use Rattle.types.proofs.Laws.{Same, same, apart, same?}
+use Rattle.protocol_types.proofs.Laws.{Same, same, apart, same?}
 
 -- the sum of φ over the numbers below n
 abbrev pub sum : ℕ → (ℕ → ℕ) → ℕ

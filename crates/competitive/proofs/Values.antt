@@ -8,24 +8,24 @@ use native.Mathlib.Omega.{arith}
 use lib.ListN.{set}
 use lib.Dec.{ltb, eqb}
 use borrow.Author.Tests.{ltb-true, eqb-true, eqb-false, eq-eqb}
-use Rattle.types.specs.Lists.{at}
-use Rattle.types.specs.Board.{Fits, variables, slots, slot, blockOf, offsetOf, wordIndex, memoryIndex, fetchPrice}
+use Rattle.protocol_types.specs.Lists.{at}
+use Rattle.protocol_types.specs.Board.{Fits, variables, slots, slot, blockOf, offsetOf, wordIndex, memoryIndex, fetchPrice}
 use Rattle.protocol.specs.Tables.{Tables, fresh, counter, block, mark, word, memoryWord, holds, sharing, marked}
 use Rattle.protocol.specs.Soundness.{Sound}
 use Rattle.protocol.specs.Rules.{writtenBack, emptied, filled, saved, evicted, owner, released, fetched, obtained, payer, writtenAlone, broadcast, charged, written}
-use Rattle.types.specs.Conditions.{Named, Valid, AllValid}
+use Rattle.protocol_types.specs.Conditions.{Named, Valid, AllValid}
 use Rattle.protocol.specs.Requests.{servedBy, served, valueBy}
 use Rattle.protocol.specs.Engines.{servedAll}
 use Rattle.protocol.specs.Runs.{engine}
 use Rattle.competitive.specs.Claims.{newer, lastWritten, expectedBy}
-use Rattle.types.specs.declared.Setup.{Setup}
-use Rattle.types.specs.declared.Variable.{Variable}
-use Rattle.types.specs.declared.Block.{Block}
-use Rattle.types.specs.declared.Request.{Request}
-use Rattle.types.specs.declared.Operation.{Operation}
-use Rattle.types.specs.declared.Operation.the-variants.{Read, Write}
-use Rattle.types.proofs.Laws.{Same, same, apart, same?, choice, at-set-same, at-set-other, at-set-zero, at-zeros}
-use Rattle.types.proofs.Board.{block-path, block-number, variable-path, SameBlock, one, two, same-block?, same-variable, slot-lt, wordIndex-inj, wordIndex-lt, offset-lt, block-lt}
+use Rattle.protocol_types.specs.declared.Setup.{Setup}
+use Rattle.protocol_types.specs.declared.Variable.{Variable}
+use Rattle.protocol_types.specs.declared.Block.{Block}
+use Rattle.protocol_types.specs.declared.Request.{Request}
+use Rattle.protocol_types.specs.declared.Operation.{Operation}
+use Rattle.protocol_types.specs.declared.Operation.the-variants.{Read, Write}
+use Rattle.protocol_types.proofs.Laws.{Same, same, apart, same?, choice, at-set-same, at-set-other, at-set-zero, at-zeros}
+use Rattle.protocol_types.proofs.Board.{block-path, block-number, variable-path, SameBlock, one, two, same-block?, same-variable, slot-lt, wordIndex-inj, wordIndex-lt, offset-lt, block-lt}
 use Rattle.protocol.proofs.Holding.{holder-slot, owner-found}
 use Rattle.protocol.proofs.Lengths.{counter-stored, block-stored, mark-stored}
 use Rattle.competitive.proofs.Sound.{writtenBack-memory-same, writtenBack-memory-other, emptied-word-other, filled-word-same, filled-word-other, broadcast-word-out, broadcast-word-in, broadcast-memory-same, broadcast-memory-other}

@@ -5,24 +5,24 @@ use mathlib.Core.Bool.{true, cond}
 use mathlib.Core.List.{List, [], _∷_}
 use lib.ListN.{length}
 use lib.Dec.{eqb}
-use Rattle.types.specs.Refusals.{noRefusal}
-use Rattle.types.specs.Board.{fetchPrice}
+use Rattle.protocol_types.specs.Refusals.{noRefusal}
+use Rattle.protocol_types.specs.Board.{fetchPrice}
 use Rattle.protocol.specs.Tables.{fresh}
-use Rattle.types.specs.Conditions.{requestLimit}
+use Rattle.protocol_types.specs.Conditions.{requestLimit}
 use Rattle.protocol.specs.Accounts.{cycles, freshAccount, cyclesOf, possible}
 use Rattle.protocol.specs.Engines.{run, Run, outcomes, runs, takenAll, spent, expectedAll, valuesOf, Never20Or21}
 use Rattle.protocol.specs.Runs.{engine, opening}
 use Rattle.protocol.specs.Rival.{Rival, noCopies, Legal, costs, lastCopies}
 use Rattle.protocol.specs.Pricer.{priceRefusal, price, priceTables}
 use Rattle.competitive.specs.EngineSchedule.{EngineIsRival}
-use Rattle.types.specs.declared.Setup.{Setup}
-use Rattle.types.specs.declared.Variable.{Variable}
-use Rattle.types.specs.declared.Request.{Request}
-use Rattle.types.specs.declared.Operation.{Operation}
-use Rattle.types.specs.declared.Operation.the-variants.{Read, Write}
-use Rattle.types.specs.declared.Account.{Account}
-use Rattle.types.specs.declared.Entry.{Entry}
-use Rattle.types.specs.declared.PriceAnswer.the-variants.{Accepted, Refused}
+use Rattle.protocol_types.specs.declared.Setup.{Setup}
+use Rattle.protocol_types.specs.declared.Variable.{Variable}
+use Rattle.protocol_types.specs.declared.Request.{Request}
+use Rattle.protocol_types.specs.declared.Operation.{Operation}
+use Rattle.protocol_types.specs.declared.Operation.the-variants.{Read, Write}
+use Rattle.protocol_types.specs.declared.Account.{Account}
+use Rattle.protocol_types.specs.declared.Entry.{Entry}
+use Rattle.protocol_types.specs.declared.PriceAnswer.the-variants.{Accepted, Refused}
 
 -- ---- demand 3
 

@@ -4,21 +4,21 @@ use mathlib.Core.Path.{_≡_}
 use mathlib.Core.Bool.{_&&_, cond}
 use mathlib.Core.List.{List, [], _∷_, _++_}
 use lib.Dec.{ltb, eqb}
-use Rattle.types.specs.Lists.{at}
-use Rattle.types.specs.Board.{slots, slot, blockOf}
+use Rattle.protocol_types.specs.Lists.{at}
+use Rattle.protocol_types.specs.Board.{slots, slot, blockOf}
 use Rattle.protocol.specs.Tables.{Tables, fresh, counter, block, mark, holds, sharing, marked}
 use Rattle.protocol.specs.Rules.{obtained, payer}
 use Rattle.protocol.specs.Requests.{served}
 use Rattle.protocol.specs.Engines.{servedAll, spent}
 use Rattle.protocol.specs.Runs.{engine}
 use Rattle.protocol.specs.Rival.{Rival, noCopies, Legal, costs, lastCopies}
-use Rattle.types.specs.declared.Setup.{Setup}
-use Rattle.types.specs.declared.Block.{Block}
-use Rattle.types.specs.declared.Request.{Request}
-use Rattle.types.specs.declared.Operation.{Operation}
-use Rattle.types.specs.declared.Operation.the-variants.{Read, Write}
-use Rattle.types.specs.declared.Entry.{Entry}
-use Rattle.types.specs.declared.Entry.the-variants.{Fetch, WriteBack, Drop, Complete}
+use Rattle.protocol_types.specs.declared.Setup.{Setup}
+use Rattle.protocol_types.specs.declared.Block.{Block}
+use Rattle.protocol_types.specs.declared.Request.{Request}
+use Rattle.protocol_types.specs.declared.Operation.{Operation}
+use Rattle.protocol_types.specs.declared.Operation.the-variants.{Read, Write}
+use Rattle.protocol_types.specs.declared.Entry.{Entry}
+use Rattle.protocol_types.specs.declared.Entry.the-variants.{Fetch, WriteBack, Drop, Complete}
 
 -- ---- what the engine does for one request, as entries
 

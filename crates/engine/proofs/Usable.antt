@@ -2,18 +2,18 @@
 -- Assumes nothing.
 use Prim.Native.Nat.{ℕ, _<_}
 use lib.Dec.{ltb, eqb}
-use Rattle.types.specs.Board.{Fits, slot, blockOf, offsetOf}
+use Rattle.protocol_types.specs.Board.{Fits, slot, blockOf, offsetOf}
 use Rattle.protocol.specs.Tables.{Tables, block, counter, marked, holds, sharing}
 use Rattle.protocol.specs.Rules.{writtenBack, emptied, filled, saved, evicted, owner, released, fetched, obtained, payer, writtenAlone, broadcast, charged, written}
-use Rattle.types.specs.Conditions.{Named, Valid}
+use Rattle.protocol_types.specs.Conditions.{Named, Valid}
 use Rattle.protocol.specs.Requests.{servedBy, served}
-use Rattle.types.specs.declared.Setup.{Setup}
-use Rattle.types.specs.declared.Block.{Block}
-use Rattle.types.specs.declared.Request.{Request}
-use Rattle.types.specs.declared.Operation.{Operation}
-use Rattle.types.specs.declared.Operation.the-variants.{Read, Write}
-use Rattle.types.proofs.Laws.{choice, at-set}
-use Rattle.types.proofs.Board.{block-lt}
+use Rattle.protocol_types.specs.declared.Setup.{Setup}
+use Rattle.protocol_types.specs.declared.Block.{Block}
+use Rattle.protocol_types.specs.declared.Request.{Request}
+use Rattle.protocol_types.specs.declared.Operation.{Operation}
+use Rattle.protocol_types.specs.declared.Operation.the-variants.{Read, Write}
+use Rattle.protocol_types.proofs.Laws.{choice, at-set}
+use Rattle.protocol_types.proofs.Board.{block-lt}
 use Rattle.protocol.proofs.Lengths.{sized-served}
 use Rattle.engine.specs.Usable.{Usable}
 

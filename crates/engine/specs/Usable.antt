@@ -2,12 +2,12 @@
 use Prim.Native.Nat.{ℕ, _<_}
 use Rattle.protocol.specs.Tables.{Tables, Sized, block}
 use Rattle.protocol.specs.Rules.{fetchCycles, writeBackCycles}
-use Rattle.types.specs.declared.Setup.{Setup}
-use Rattle.types.specs.declared.Block.{Block}
-use Rattle.types.specs.declared.Bill.{Bill}
-use Rattle.types.specs.declared.Operation.{Operation}
-use Rattle.types.specs.declared.Operation.the-variants.{Read, Write}
-use Rattle.types.specs.declared.Variable.{Variable}
+use Rattle.protocol_types.specs.declared.Setup.{Setup}
+use Rattle.protocol_types.specs.declared.Block.{Block}
+use Rattle.protocol_types.specs.declared.Bill.{Bill}
+use Rattle.protocol_types.specs.declared.Operation.{Operation}
+use Rattle.protocol_types.specs.declared.Operation.the-variants.{Read, Write}
+use Rattle.protocol_types.specs.declared.Variable.{Variable}
 use Rattle.engine.specs.declared.Effect.{Effect}
 use Rattle.engine.specs.declared.Effect.the-variants.{Supply, Store}
 use Rattle.engine.specs.declared.Access.{Access}

@@ -1,12 +1,12 @@
 // A line of a cache emptied, and its block written back.
 use parts::clear_row;
 use parts::copy_row;
-use types::Setup;
+use protocol_types::Setup;
 ghost use mathlib.Core.Path.{_≡_};
 ghost use mathlib.Core.List.{List};
 ghost use Prim.Native.Nat.{ℕ, _<_};
-ghost use Rattle.types.specs.Lists.{at};
-ghost use Rattle.types.specs.Board.{slots};
+ghost use Rattle.protocol_types.specs.Lists.{at};
+ghost use Rattle.protocol_types.specs.Board.{slots};
 ghost use Rattle.protocol.specs.Tables.{Sized};
 ghost use Rattle.protocol.specs.Lent.{lent, before, after, unlent, PerSlot, PerSlotWord, PerVariable};
 ghost use Rattle.protocol.specs.Rules.{emptied, writtenBack, saved, saveCycles, evicted};

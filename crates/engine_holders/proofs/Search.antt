@@ -3,11 +3,11 @@
 use Prim.Native.Nat.{ℕ}
 use mathlib.Core.Path.{_≡_, refl}
 use lib.Dec.{ltb}
-use Rattle.types.specs.Lists.{first, other}
+use Rattle.protocol_types.specs.Lists.{first, other}
 use Rattle.protocol.specs.Tables.{Tables, sharing}
 use Rattle.protocol.specs.Rules.{payer, owner}
-use Rattle.types.specs.declared.Setup.{Setup}
-use Rattle.types.specs.declared.Block.{Block}
+use Rattle.protocol_types.specs.declared.Setup.{Setup}
+use Rattle.protocol_types.specs.declared.Block.{Block}
 use Rattle.engine_holders.specs.Searches.{otherHolds, otherHolder, owns}
 
 module _ (s : Setup) (t : Tables) (b : Block) where

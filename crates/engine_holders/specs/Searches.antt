@@ -4,11 +4,11 @@ use mathlib.Core.Bool.{Bool, not, _&&_, cond}
 use mathlib.Core.List.{List}
 use lib.ListN.{set}
 use lib.Dec.{eqb}
-use Rattle.types.specs.Lists.{other}
-use Rattle.types.specs.Board.{slot, wordIndex}
+use Rattle.protocol_types.specs.Lists.{other}
+use Rattle.protocol_types.specs.Board.{slot, wordIndex}
 use Rattle.protocol.specs.Tables.{Tables, holds, marked}
-use Rattle.types.specs.declared.Setup.{Setup}
-use Rattle.types.specs.declared.Block.{Block}
+use Rattle.protocol_types.specs.declared.Setup.{Setup}
+use Rattle.protocol_types.specs.declared.Block.{Block}
 
 -- processor j is another one than i and holds block b
 unfoldable pub otherHolds : Setup → Tables → ℕ → Block → ℕ → Bool

@@ -1,12 +1,12 @@
 // Who holds a block: the searches over processors, and the update of its copies.
 use parts::set_word;
-use types::Block;
-use types::Setup;
+use protocol_types::Block;
+use protocol_types::Setup;
 ghost use mathlib.Core.Path.{_≡_};
 ghost use mathlib.Core.List.{List};
 ghost use Prim.Native.Nat.{ℕ, _<_};
 ghost use lib.ListN.{length};
-ghost use Rattle.types.specs.Board.{Fits};
+ghost use Rattle.protocol_types.specs.Board.{Fits};
 ghost use Rattle.protocol.specs.Tables.{holdsAt, holds, sharing};
 ghost use Rattle.protocol.specs.Lent.{before, unlent, PerSlot, PerSlotWord};
 ghost use Rattle.protocol.specs.Rules.{payer, owner, updatedCopies};

@@ -3,11 +3,11 @@
 use Prim.Native.Nat.{ℕ}
 use mathlib.Core.Path.{_≡_, refl}
 use mathlib.Core.Bool.{Bool}
-use Rattle.types.specs.Lists.{all}
-use Rattle.types.specs.Board.{lineSlot}
+use Rattle.protocol_types.specs.Lists.{all}
+use Rattle.protocol_types.specs.Board.{lineSlot}
 use Rattle.protocol.specs.Tables.{Tables}
 use Rattle.protocol.specs.Soundness.{soundLine, sound}
-use Rattle.types.specs.declared.Setup.{Setup}
+use Rattle.protocol_types.specs.declared.Setup.{Setup}
 
 -- the tests of line l of processor i, and of processor i
 

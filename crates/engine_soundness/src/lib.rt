@@ -1,11 +1,11 @@
 // The soundness scan.
-use types::Block;
-use types::Setup;
+use protocol_types::Block;
+use protocol_types::Setup;
 ghost use mathlib.Core.Path.{_≡_};
 ghost use mathlib.Core.List.{List};
 ghost use Prim.Native.Nat.{ℕ, _<_};
-ghost use Rattle.types.specs.Lists.{at};
-ghost use Rattle.types.specs.Board.{Fits, slots, lineSlot};
+ghost use Rattle.protocol_types.specs.Lists.{at};
+ghost use Rattle.protocol_types.specs.Board.{Fits, slots, lineSlot};
 ghost use Rattle.protocol.specs.Tables.{Sized};
 ghost use Rattle.protocol.specs.Lent.{lent, before, unlent, PerSlot, PerSlotWord};
 ghost use Rattle.protocol.specs.Soundness.{emptyLine, copyLine, soundLine, sound};

@@ -8,16 +8,16 @@ use mathlib.Core.List.{List, []}
 use lib.ListN.{length}
 use lib.Dec.{ltb, eqb}
 use borrow.Author.Tests.{eqb-true, ltb-true, ne-eqb}
-use Rattle.types.specs.Lists.{part}
-use Rattle.types.specs.Refusals.{noRefusal, unless, wrongLength}
-use Rattle.types.specs.Board.{Fits, setupRefusal, slot, slots, wordIndex}
+use Rattle.protocol_types.specs.Lists.{part}
+use Rattle.protocol_types.specs.Refusals.{noRefusal, unless, wrongLength}
+use Rattle.protocol_types.specs.Board.{Fits, setupRefusal, slot, slots, wordIndex}
 use Rattle.protocol.specs.Tables.{Tables, sized, fresh, directory, holds}
 use Rattle.protocol.specs.Runs.{startRefusal, started, looked}
-use Rattle.types.specs.declared.Setup.{Setup}
-use Rattle.types.specs.declared.Block.{Block}
-use Rattle.types.proofs.Laws.{both-true}
-use Rattle.types.proofs.Refusals.{first-refuses}
-use Rattle.types.proofs.Board.{setup-fits}
+use Rattle.protocol_types.specs.declared.Setup.{Setup}
+use Rattle.protocol_types.specs.declared.Block.{Block}
+use Rattle.protocol_types.proofs.Laws.{both-true}
+use Rattle.protocol_types.proofs.Refusals.{first-refuses}
+use Rattle.protocol_types.proofs.Board.{setup-fits}
 use Rattle.engine_tables.specs.Entries.{lengthsFit, seen}
 
 -- ---- starting

@@ -4,11 +4,11 @@ use mathlib.Core.Bool.{Bool, _&&_}
 use mathlib.Core.List.{List}
 use lib.ListN.{length}
 use lib.Dec.{ltb, eqb}
-use Rattle.types.specs.Refusals.{noRefusal}
-use Rattle.types.specs.Board.{setupRefusal, slots, variables}
+use Rattle.protocol_types.specs.Refusals.{noRefusal}
+use Rattle.protocol_types.specs.Board.{setupRefusal, slots, variables}
 use Rattle.protocol.specs.Tables.{directory, holds}
-use Rattle.types.specs.declared.Setup.{Setup}
-use Rattle.types.specs.declared.Block.{Block}
+use Rattle.protocol_types.specs.declared.Setup.{Setup}
+use Rattle.protocol_types.specs.declared.Block.{Block}
 
 -- protocol's sized, on the tables' lengths
 unfoldable pub lengthsFit : Setup → ℕ → ℕ → ℕ → ℕ → ℕ → Bool

@@ -1,8 +1,8 @@
 // Starting and looking.
-use types::Block;
-use types::Setup;
+use protocol_types::Block;
+use protocol_types::Setup;
 ghost use mathlib.Core.Path.{_≡_};
-ghost use Rattle.types.specs.Board.{Fits};
+ghost use Rattle.protocol_types.specs.Board.{Fits};
 ghost use Rattle.protocol.specs.Lent.{before, after};
 ghost use Rattle.protocol.specs.Runs.{startRefusal, started, looked};
 ghost use Rattle.engine_tables.specs.Entries.{lengthsFit, seen};
@@ -47,7 +47,7 @@ pub fn start(
     ensures { λ _. ⌜ after blocks counters marks words memory ≡ started setup (before blocks counters marks words memory) ⌝ }
 {
     let refusal = setup.refusal();
-    if refusal != types::NO_REFUSAL {
+    if refusal != protocol_types::NO_REFUSAL {
         return refusal;
     }
     if !lengths_fit(
@@ -58,14 +58,14 @@ pub fn start(
         words.len(),
         memory.len(),
     ) {
-        return types::WRONG_LENGTH;
+        return protocol_types::WRONG_LENGTH;
     }
     parts::clear(blocks);
     parts::clear(counters);
     parts::clear(marks);
     parts::clear(words);
     parts::clear(memory);
-    types::NO_REFUSAL
+    protocol_types::NO_REFUSAL
 }
 
 // Whether a look at a block in a processor's cache shows it, the words being `count`.
@@ -79,7 +79,7 @@ fn sees(
 ) -> bool
     ensures { λ r. ⌜ r ≡ seen setup (now (blocks .entry)) (now (counters .entry)) count processor block ⌝ }
 {
-    if setup.refusal() != types::NO_REFUSAL {
+    if setup.refusal() != protocol_types::NO_REFUSAL {
         return false;
     }
     if blocks.len() != setup.slot_count() {

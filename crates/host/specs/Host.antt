@@ -5,10 +5,10 @@ use denote.Ref.{RefT, now}
 use denote.Triple.Both.{Both}
 use Rattle.protocol.specs.Tables.{Tables}
 use Rattle.protocol.specs.Pricer.{numberOf, placeOf, costOf}
-use Rattle.types.specs.declared.PriceAnswer.{PriceAnswer}
-use Rattle.types.specs.declared.Setup.{Setup}
-use Rattle.types.specs.declared.Block.{Block}
-use Rattle.types.specs.declared.Account.{Account}
+use Rattle.protocol_types.specs.declared.PriceAnswer.{PriceAnswer}
+use Rattle.protocol_types.specs.declared.Setup.{Setup}
+use Rattle.protocol_types.specs.declared.Block.{Block}
+use Rattle.protocol_types.specs.declared.Account.{Account}
 use Rattle.host_numbers.specs.Numbers.{accountOf}
 use Rattle.trace_lines.specs.Trace.{Ended}
 

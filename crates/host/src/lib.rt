@@ -1,8 +1,8 @@
 // The product for hosts in C and Rust: functions of numbers and slices of numbers alone. Every out-parameter is always written.
-use types::Account;
-use types::Block;
-use types::PriceAnswer;
-use types::Setup;
+use protocol_types::Account;
+use protocol_types::Block;
+use protocol_types::PriceAnswer;
+use protocol_types::Setup;
 ghost use mathlib.Core.Path.{_≡_};
 ghost use Rattle.protocol.specs.Lent.{before, after};
 ghost use Rattle.protocol.specs.Engines.{answered, run as ran};
@@ -147,7 +147,7 @@ fn number_of(answer: PriceAnswer) -> u32
     ensures { λ r. ⌜ r ≡ numberOf answer ⌝ }
 {
     match answer {
-        PriceAnswer::Accepted(_) => types::NO_REFUSAL,
+        PriceAnswer::Accepted(_) => protocol_types::NO_REFUSAL,
         PriceAnswer::Refused(number, _) => number,
     }
 }

@@ -6,8 +6,8 @@ use native.Mathlib.Nat.{suc-mul}
 use native.Mathlib.Numerals.{unary-clauses}
 use native.Mathlib.Omega.{arith}
 use lib.ListN.{length, getD}
-use Rattle.types.specs.declared.Request.{Request}
-use Rattle.types.specs.declared.Entry.{Entry}
+use Rattle.protocol_types.specs.declared.Request.{Request}
+use Rattle.protocol_types.specs.declared.Entry.{Entry}
 use Rattle.host_decoding.specs.Records.{requestAt, requestsOf, entryAt, entriesOf}
 
 -- ---- four numbers a request

@@ -1,9 +1,9 @@
 // Requests and a schedule's entries, read from lists of numbers.
-use types::Block;
-use types::Entry;
-use types::Operation;
-use types::Request;
-use types::Variable;
+use protocol_types::Block;
+use protocol_types::Entry;
+use protocol_types::Operation;
+use protocol_types::Request;
+use protocol_types::Variable;
 ghost use mathlib.Core.Path.{_≡_};
 ghost use Prim.Native.Nat.{_/_, _<_};
 ghost use lib.ListN.{length};

@@ -8,13 +8,13 @@ use native.Mathlib.Omega.{arith}
 use lib.ListN.{length, take, drop}
 use lib.Dec.{eqb}
 use borrow.Author.Tests.{eqb-true, eq-eqb, ne-eqb}
-use Rattle.types.specs.Lists.{part}
-use Rattle.types.specs.Board.{slot, slots, wordIndex}
+use Rattle.protocol_types.specs.Lists.{part}
+use Rattle.protocol_types.specs.Board.{slot, slots, wordIndex}
 use Rattle.protocol.specs.Runs.{looked}
-use Rattle.types.specs.declared.Setup.{Setup}
-use Rattle.types.specs.declared.Block.{Block}
-use Rattle.types.proofs.Board.{few-line-words}
-use Rattle.types.proofs.Rows.{row-end}
+use Rattle.protocol_types.specs.declared.Setup.{Setup}
+use Rattle.protocol_types.specs.declared.Block.{Block}
+use Rattle.protocol_types.proofs.Board.{few-line-words}
+use Rattle.protocol_types.proofs.Rows.{row-end}
 use Rattle.engine_tables.specs.Entries.{seen}
 use Rattle.engine_tables.proofs.Tests.{Shown, shown}
 use Rattle.host_looks.specs.Looks.{lookLength, lookOffset}

@@ -4,10 +4,10 @@ use mathlib.Core.Bool.{cond}
 use mathlib.Core.List.{List}
 use lib.ListN.{length}
 use lib.Dec.{eqb}
-use Rattle.types.specs.Board.{slot, wordIndex}
+use Rattle.protocol_types.specs.Board.{slot, wordIndex}
 use Rattle.protocol.specs.Runs.{looked}
-use Rattle.types.specs.declared.Setup.{Setup}
-use Rattle.types.specs.declared.Block.{Block}
+use Rattle.protocol_types.specs.declared.Setup.{Setup}
+use Rattle.protocol_types.specs.declared.Block.{Block}
 
 unfoldable pub lookLength : Setup → List ℕ → List ℕ → List ℕ → ℕ → Block → ℕ
 lookLength s blocks counters words i b = length (looked s blocks counters words i b)

@@ -1,6 +1,6 @@
 // A look as an offset and a length, for hosts to which no slice can be given back.
-use types::Block;
-use types::Setup;
+use protocol_types::Block;
+use protocol_types::Setup;
 ghost use mathlib.Core.Path.{_≡_};
 ghost use Rattle.host_looks.specs.Looks.{lookLength, lookOffset};
 

@@ -5,12 +5,12 @@ use mathlib.Core.Bool.{true, false}
 use mathlib.Core.List.{List}
 use native.Mathlib.Omega.{arith}
 use lib.ListN.{length, getD}
-use Rattle.types.specs.Lists.{at}
+use Rattle.protocol_types.specs.Lists.{at}
 use Rattle.protocol.specs.Rival.{Rival}
-use Rattle.types.specs.declared.Setup.{Setup}
-use Rattle.types.specs.declared.Request.{Request}
-use Rattle.types.specs.declared.Entry.{Entry}
-use Rattle.types.proofs.Conditions.{no-request}
+use Rattle.protocol_types.specs.declared.Setup.{Setup}
+use Rattle.protocol_types.specs.declared.Request.{Request}
+use Rattle.protocol_types.specs.declared.Entry.{Entry}
+use Rattle.protocol_types.proofs.Conditions.{no-request}
 use Rattle.rival_pricing.specs.Stages.{PriceStage, priceBegun, took, completed}
 use Rattle.rival_pricer.proofs.Loop.{no-entry, Inv, μ, inv-start, at-entry, inv-took, falls-took, at-request, inv-completed, falls-completed}
 use Rattle.host_decoding.specs.Records.{requestOf, requestsOf, entryOf, entriesOf}

@@ -5,14 +5,14 @@ use mathlib.Core.Bool.{true}
 use mathlib.Core.List.{List}
 use native.Mathlib.Omega.{arith}
 use lib.ListN.{length, getD}
-use Rattle.types.specs.Lists.{at}
+use Rattle.protocol_types.specs.Lists.{at}
 use Rattle.protocol.specs.Tables.{Tables}
 use Rattle.protocol.specs.Accounts.{nothing}
-use Rattle.types.specs.declared.Setup.{Setup}
-use Rattle.types.specs.declared.Account.{Account}
-use Rattle.types.specs.declared.Request.{Request}
+use Rattle.protocol_types.specs.declared.Setup.{Setup}
+use Rattle.protocol_types.specs.declared.Account.{Account}
+use Rattle.protocol_types.specs.declared.Request.{Request}
 use Rattle.protocol.specs.Runs.{runRefusal, engine}
-use Rattle.types.proofs.Conditions.{no-request}
+use Rattle.protocol_types.proofs.Conditions.{no-request}
 use Rattle.run_progress.specs.Progress.{Room, RunStage, runStage, begun, turned}
 use Rattle.run_progress.proofs.Loop.{Small}
 use Rattle.run_steps.proofs.Loop.{Inv, μ, inv-start, inv-within, inv-turn, inv-falls}

@@ -1,8 +1,8 @@
 // A run and a schedule's price over plain numbers: requests and entries are decoded as they are reached.
-use types::Account;
-use types::PriceAnswer;
-use types::RunAnswer;
-use types::Setup;
+use protocol_types::Account;
+use protocol_types::PriceAnswer;
+use protocol_types::RunAnswer;
+use protocol_types::Setup;
 ghost use mathlib.Core.Path.{_≡_};
 ghost use Rattle.protocol.specs.Lent.{before, after};
 ghost use Rattle.protocol.specs.Engines.{run as ran};

@@ -10,7 +10,7 @@ use native.Mathlib.Numerals.{add-one}
 use native.Mathlib.Omega.{arith}
 use lib.ListN.{length, getD, take, drop, set, length-drop, length-replicate}
 use lib.Seq.{sets, sets-eq, take-length, drop-length, drop-drop, length-take-le}
-use Rattle.types.specs.Lists.{part, zeros, all}
+use Rattle.protocol_types.specs.Lists.{part, zeros, all}
 
 -- ---- a loop that overwrites xs by ys from the front
 

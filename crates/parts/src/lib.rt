@@ -1,12 +1,12 @@
 // Parts of lent words: cleared, copied and compared; and rows of words, which are a slot's words and a block's words in main memory.
-use types::Setup;
+use protocol_types::Setup;
 ghost use mathlib.Core.Path.{_≡_};
 ghost use Prim.Native.Nat.{_+_, _≤_, _<_};
 ghost use lib.ListN.{length, set};
 ghost use lib.Seq.{sets};
 ghost use lib.Dec.{eqb};
-ghost use Rattle.types.specs.Lists.{at, part, zeros, all};
-ghost use Rattle.types.specs.Board.{wordIndex};
+ghost use Rattle.protocol_types.specs.Lists.{at, part, zeros, all};
+ghost use Rattle.protocol_types.specs.Board.{wordIndex};
 
 // Every word becomes 0.
 pub fn clear(part: &mut [u32])

@@ -5,12 +5,12 @@ use mathlib.Core.Bool.{true}
 use native.Mathlib.Nat.{mul-le-mul-right, mul-add}
 use native.Mathlib.Omega.{arith}
 use borrow.Author.Tests.{leb-true, le-leb}
-use Rattle.types.specs.Board.{Fits, fetchPrice, mostWriteBack}
+use Rattle.protocol_types.specs.Board.{Fits, fetchPrice, mostWriteBack}
 use Rattle.protocol.specs.Accounts.{nothing, plus, possible, Spent, billOf}
-use Rattle.types.specs.declared.Setup.{Setup}
-use Rattle.types.specs.declared.Bill.{Bill}
-use Rattle.types.specs.declared.Account.{Account}
-use Rattle.types.proofs.Laws.{both-true, and-true}
+use Rattle.protocol_types.specs.declared.Setup.{Setup}
+use Rattle.protocol_types.specs.declared.Bill.{Bill}
+use Rattle.protocol_types.specs.declared.Account.{Account}
+use Rattle.protocol_types.proofs.Laws.{both-true, and-true}
 
 pub account-path : {a c : Account} → a .requests ≡ c .requests → a .fetch ≡ c .fetch → a .«write_back» ≡ c .«write_back» → a .update ≡ c .update → a ≡ c
 account-path e f g h = λ i. record { requests = e i; fetch = f i; «write_back» = g i; update = h i }

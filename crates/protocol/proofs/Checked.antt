@@ -7,14 +7,14 @@ use native.Mathlib.Omega.{arith}
 use native.Mathlib.Nat.{mod-lt, div-add-mod'}
 use lib.Dec.{leb, ltb, eqb}
 use borrow.Author.Tests.{not-true, ltb-true, leb-true, eqb-true, eqb-false, lt-ltb, le-leb, eq-eqb, ne-eqb}
-use Rattle.types.specs.Lists.{at, all}
-use Rattle.types.specs.Board.{Fits, slots, slot, lineOf, fetchPrice}
+use Rattle.protocol_types.specs.Lists.{at, all}
+use Rattle.protocol_types.specs.Board.{Fits, slots, slot, lineOf, fetchPrice}
 use Rattle.protocol.specs.Tables.{Tables, Sized, sized, counter, block, mark, word, memoryWord, holds, sharing}
 use Rattle.protocol.specs.Soundness.{SlotSoundAt, Sound, emptyLine, copyLine, soundLine, sound}
-use Rattle.types.specs.declared.Setup.{Setup}
-use Rattle.types.specs.declared.Block.{Block}
-use Rattle.types.proofs.Laws.{Same, same, apart, same?, Known, sure, not-so, known, choice, chosen, both-true, three-true, four-true, and-true, all-true, true-all}
-use Rattle.types.proofs.Board.{row-lt, row-mod, slot-lt, slot-inj, slot-of, processor-lt}
+use Rattle.protocol_types.specs.declared.Setup.{Setup}
+use Rattle.protocol_types.specs.declared.Block.{Block}
+use Rattle.protocol_types.proofs.Laws.{Same, same, apart, same?, Known, sure, not-so, known, choice, chosen, both-true, three-true, four-true, and-true, all-true, true-all}
+use Rattle.protocol_types.proofs.Board.{row-lt, row-mod, slot-lt, slot-inj, slot-of, processor-lt}
 use Rattle.protocol.proofs.Holding.{holder-slot, slot-holder, sharing-found, sharing-none}
 
 pub sized-passes : (s : Setup) (t : Tables) → Sized s t → sized s t ≡ true

@@ -10,16 +10,16 @@ use native.Mathlib.Nat.{mul-suc}
 use lib.ListN.{length, length-append}
 use lib.Dec.{eqb}
 use borrow.Author.Tests.{eqb-true}
-use Rattle.types.specs.Lists.{tail, Each}
-use Rattle.types.specs.Refusals.{noRefusal, wrongLength, unsoundTables, impossibleAccount}
-use Rattle.types.specs.Board.{fetchPrice, mostWriteBack}
+use Rattle.protocol_types.specs.Lists.{tail, Each}
+use Rattle.protocol_types.specs.Refusals.{noRefusal, wrongLength, unsoundTables, impossibleAccount}
+use Rattle.protocol_types.specs.Board.{fetchPrice, mostWriteBack}
 use Rattle.protocol.specs.Accounts.{entered, Spent}
-use Rattle.types.specs.Conditions.{requestLimit}
+use Rattle.protocol_types.specs.Conditions.{requestLimit}
 use Rattle.protocol.specs.Engines.{Engine, Outcome, endedBy, onward, runFrom, run, Run, State, outcomeOf, leftBy, outcomes, runs, takenFrom, takenRun, takenAll, servedAll, spent, expectedFrom, expectedRun, expectedAll, valuesOf, Never20Or21}
-use Rattle.types.specs.declared.Setup.{Setup}
-use Rattle.types.specs.declared.Bill.{Bill}
-use Rattle.types.specs.declared.Account.{Account}
-use Rattle.types.proofs.Laws.{choice}
+use Rattle.protocol_types.specs.declared.Setup.{Setup}
+use Rattle.protocol_types.specs.declared.Bill.{Bill}
+use Rattle.protocol_types.specs.declared.Account.{Account}
+use Rattle.protocol_types.proofs.Laws.{choice}
 use Rattle.protocol.proofs.Accounts.{Possible, account-path}
 
 -- ---- what is asked of an engine

@@ -5,14 +5,14 @@ use mathlib.Core.Logic.{_≢_}
 use mathlib.Core.Bool.{true, false, _&&_, true≢false}
 use lib.Dec.{ltb}
 use borrow.Author.Tests.{ltb-true, ltb-false, eqb-true, lt-ltb, le-ltb, eq-eqb}
-use Rattle.types.specs.Lists.{other}
-use Rattle.types.specs.Board.{Fits, slot, lineOf}
+use Rattle.protocol_types.specs.Lists.{other}
+use Rattle.protocol_types.specs.Board.{Fits, slot, lineOf}
 use Rattle.protocol.specs.Tables.{Tables, counter, block, mark, holdsAt, holds, sharing, marked}
 use Rattle.protocol.specs.Rules.{owner, payer}
-use Rattle.types.specs.declared.Setup.{Setup}
-use Rattle.types.specs.declared.Block.{Block}
-use Rattle.types.proofs.Laws.{Known, sure, not-so, known, both-true, and-true, first-holds, first-none, other-found, other-none, other-some, Another}
-use Rattle.types.proofs.Board.{block-path, block-number, slot-of}
+use Rattle.protocol_types.specs.declared.Setup.{Setup}
+use Rattle.protocol_types.specs.declared.Block.{Block}
+use Rattle.protocol_types.proofs.Laws.{Known, sure, not-so, known, both-true, and-true, first-holds, first-none, other-found, other-none, other-some, Another}
+use Rattle.protocol_types.proofs.Board.{block-path, block-number, slot-of}
 
 -- ---- a slot
 

@@ -5,17 +5,17 @@ use native.Mathlib.Omega.{arith}
 use lib.ListN.{length, set, length-set, length-replicate}
 use lib.Seq.{length-sets}
 use lib.Dec.{ltb, eqb}
-use Rattle.types.specs.Lists.{at}
-use Rattle.types.specs.Board.{variables, slots, slot, wordIndex, blockOf, offsetOf}
+use Rattle.protocol_types.specs.Lists.{at}
+use Rattle.protocol_types.specs.Board.{variables, slots, slot, wordIndex, blockOf, offsetOf}
 use Rattle.protocol.specs.Tables.{Tables, tables, Sized, fresh, counter, holds, sharing, marked}
 use Rattle.protocol.specs.Rules.{writtenBack, emptied, filled, saved, evicted, owner, released, fetched, obtained, writtenAlone, updatedCopies, broadcast, charged, written}
 use Rattle.protocol.specs.Requests.{servedBy, served}
-use Rattle.types.specs.declared.Setup.{Setup}
-use Rattle.types.specs.declared.Block.{Block}
-use Rattle.types.specs.declared.Request.{Request}
-use Rattle.types.specs.declared.Operation.{Operation}
-use Rattle.types.specs.declared.Operation.the-variants.{Read, Write}
-use Rattle.types.proofs.Laws.{choice, at-set-same}
+use Rattle.protocol_types.specs.declared.Setup.{Setup}
+use Rattle.protocol_types.specs.declared.Block.{Block}
+use Rattle.protocol_types.specs.declared.Request.{Request}
+use Rattle.protocol_types.specs.declared.Operation.{Operation}
+use Rattle.protocol_types.specs.declared.Operation.the-variants.{Read, Write}
+use Rattle.protocol_types.proofs.Laws.{choice, at-set-same}
 
 pub sized-fresh : (s : Setup) → Sized s (fresh s)
 unfolding fresh

@@ -1,17 +1,17 @@
 -- Laws of one request: what it can cost.
 use Prim.Native.Nat.{ℕ, _≤_}
 use native.Mathlib.Omega.{arith}
-use Rattle.types.specs.Board.{Fits, slot, blockOf, fetchPrice, writeBackPrice, mostWriteBack}
+use Rattle.protocol_types.specs.Board.{Fits, slot, blockOf, fetchPrice, writeBackPrice, mostWriteBack}
 use Rattle.protocol.specs.Tables.{Tables, holds, sharing, marked}
 use Rattle.protocol.specs.Rules.{saveCycles, fetchCycles, writeBackCycles, obtained, updateCycles}
 use Rattle.protocol.specs.Accounts.{Spent}
 use Rattle.protocol.specs.Requests.{billBy, bill}
-use Rattle.types.specs.declared.Setup.{Setup}
-use Rattle.types.specs.declared.Block.{Block}
-use Rattle.types.specs.declared.Request.{Request}
-use Rattle.types.specs.declared.Operation.{Operation}
-use Rattle.types.specs.declared.Operation.the-variants.{Read, Write}
-use Rattle.types.proofs.Laws.{choice}
+use Rattle.protocol_types.specs.declared.Setup.{Setup}
+use Rattle.protocol_types.specs.declared.Block.{Block}
+use Rattle.protocol_types.specs.declared.Request.{Request}
+use Rattle.protocol_types.specs.declared.Operation.{Operation}
+use Rattle.protocol_types.specs.declared.Operation.the-variants.{Read, Write}
+use Rattle.protocol_types.proofs.Laws.{choice}
 
 -- ---- the bill
 

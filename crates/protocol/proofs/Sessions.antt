@@ -1,12 +1,12 @@
 -- Every row of the table of sessions passes.
 use mathlib.Core.Path.{_≡_, refl}
 use mathlib.Core.Bool.{true}
-use Rattle.types.specs.Lists.{first, other}
-use Rattle.types.specs.Board.{setupRefusal, inRange, fetchPrice, writeBackPrice, mostWriteBack, blockOf, offsetOf, lineOf, slots, slot, wordIndex}
+use Rattle.protocol_types.specs.Lists.{first, other}
+use Rattle.protocol_types.specs.Board.{setupRefusal, inRange, fetchPrice, writeBackPrice, mostWriteBack, blockOf, offsetOf, lineOf, slots, slot, wordIndex}
 use Rattle.protocol.specs.Tables.{lineWords, memoryWords, sized, fresh, holdsAt, holds, sharing, marked}
 use Rattle.protocol.specs.Soundness.{emptyLine, copyLine, soundLine, sound}
 use Rattle.protocol.specs.Rules.{writtenBack, emptied, filled, saved, saveCycles, evicted, owner, released, fetched, obtained, fetchCycles, writeBackCycles, payer, writtenAlone, broadcast, charged, written, updateCycles}
-use Rattle.types.specs.Conditions.{variableRefusal, requestRefusal}
+use Rattle.protocol_types.specs.Conditions.{variableRefusal, requestRefusal}
 use Rattle.protocol.specs.Requests.{served, value, bill}
 use Rattle.protocol.specs.Accounts.{possible}
 use Rattle.protocol.specs.Engines.{run}

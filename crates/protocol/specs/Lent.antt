@@ -5,9 +5,9 @@ use mathlib.Core.List.{List}
 use lib.ListN.{length}
 use denote.Ref.{RefT, now}
 use denote.Triple.Both.{Both}
-use Rattle.types.specs.Board.{slots, variables}
+use Rattle.protocol_types.specs.Board.{slots, variables}
 use Rattle.protocol.specs.Tables.{Tables, tables}
-use Rattle.types.specs.declared.Setup.{Setup}
+use Rattle.protocol_types.specs.declared.Setup.{Setup}
 
 -- a lent buffer, at entry and at exit
 abbrev pub Lent : Type 0

@@ -4,16 +4,16 @@ use mathlib.Core.Bool.{_&&_, cond}
 use mathlib.Core.List.{List, [], _∷_}
 use lib.ListN.{length}
 use lib.Dec.{leb, eqb}
-use Rattle.types.specs.Refusals.{noRefusal, unless, firstOf, wrongLength, tooMany}
-use Rattle.types.specs.Board.{setupRefusal}
+use Rattle.protocol_types.specs.Refusals.{noRefusal, unless, firstOf, wrongLength, tooMany}
+use Rattle.protocol_types.specs.Board.{setupRefusal}
 use Rattle.protocol.specs.Accounts.{nothing, plus, cycles}
 use Rattle.protocol.specs.Rival.{Rival, rivalSized, noCopies, played, left, cost, refusal, endRefusal}
-use Rattle.types.specs.declared.Setup.{Setup}
-use Rattle.types.specs.declared.Request.{Request}
-use Rattle.types.specs.declared.Bill.{Bill}
-use Rattle.types.specs.declared.Entry.{Entry}
-use Rattle.types.specs.declared.PriceAnswer.{PriceAnswer}
-use Rattle.types.specs.declared.PriceAnswer.the-variants.{Accepted, Refused}
+use Rattle.protocol_types.specs.declared.Setup.{Setup}
+use Rattle.protocol_types.specs.declared.Request.{Request}
+use Rattle.protocol_types.specs.declared.Bill.{Bill}
+use Rattle.protocol_types.specs.declared.Entry.{Entry}
+use Rattle.protocol_types.specs.declared.PriceAnswer.{PriceAnswer}
+use Rattle.protocol_types.specs.declared.PriceAnswer.the-variants.{Accepted, Refused}
 
 -- ---- a schedule's verdict
 

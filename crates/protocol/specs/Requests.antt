@@ -1,14 +1,14 @@
 -- One request: the tables after it, its value, and its bill (document 01, "What one request does").
 use Prim.Native.Nat.{ℕ}
-use Rattle.types.specs.Lists.{Each}
-use Rattle.types.specs.Board.{blockOf, offsetOf, slot}
+use Rattle.protocol_types.specs.Lists.{Each}
+use Rattle.protocol_types.specs.Board.{blockOf, offsetOf, slot}
 use Rattle.protocol.specs.Tables.{Tables, word}
 use Rattle.protocol.specs.Rules.{obtained, fetchCycles, writeBackCycles, written, updateCycles}
-use Rattle.types.specs.declared.Setup.{Setup}
-use Rattle.types.specs.declared.Request.{Request}
-use Rattle.types.specs.declared.Operation.{Operation}
-use Rattle.types.specs.declared.Operation.the-variants.{Read, Write}
-use Rattle.types.specs.declared.Bill.{Bill}
+use Rattle.protocol_types.specs.declared.Setup.{Setup}
+use Rattle.protocol_types.specs.declared.Request.{Request}
+use Rattle.protocol_types.specs.declared.Operation.{Operation}
+use Rattle.protocol_types.specs.declared.Operation.the-variants.{Read, Write}
+use Rattle.protocol_types.specs.declared.Bill.{Bill}
 
 -- Each definition goes by the cases of the operation, and then is said of a request.
 

@@ -5,19 +5,19 @@ use mathlib.Core.Bool.{Bool, true, false, not, _&&_, cond}
 use mathlib.Core.List.{List, [], _∷_}
 use lib.ListN.{length, set}
 use lib.Dec.{ltb, eqb}
-use Rattle.types.specs.Lists.{at, zeros, tail, other}
-use Rattle.types.specs.Refusals.{noRefusal, unless, noSuchProcessor, noSuchBlock, readByBroadcast, lineInUse, blockNotHeld, dropOfMarked, noRequestLeft, completionNotHeld, requestsLeft}
-use Rattle.types.specs.Board.{slots, slot, blockOf, fetchPrice, writeBackPrice}
-use Rattle.types.specs.Conditions.{namedRefusal}
+use Rattle.protocol_types.specs.Lists.{at, zeros, tail, other}
+use Rattle.protocol_types.specs.Refusals.{noRefusal, unless, noSuchProcessor, noSuchBlock, readByBroadcast, lineInUse, blockNotHeld, dropOfMarked, noRequestLeft, completionNotHeld, requestsLeft}
+use Rattle.protocol_types.specs.Board.{slots, slot, blockOf, fetchPrice, writeBackPrice}
+use Rattle.protocol_types.specs.Conditions.{namedRefusal}
 use Rattle.protocol.specs.Accounts.{nothing, plus}
-use Rattle.types.specs.declared.Setup.{Setup}
-use Rattle.types.specs.declared.Block.{Block}
-use Rattle.types.specs.declared.Request.{Request}
-use Rattle.types.specs.declared.Operation.{Operation}
-use Rattle.types.specs.declared.Operation.the-variants.{Read, Write}
-use Rattle.types.specs.declared.Bill.{Bill}
-use Rattle.types.specs.declared.Entry.{Entry}
-use Rattle.types.specs.declared.Entry.the-variants.{Fetch, WriteBack, Drop, Complete, CompleteByBroadcast}
+use Rattle.protocol_types.specs.declared.Setup.{Setup}
+use Rattle.protocol_types.specs.declared.Block.{Block}
+use Rattle.protocol_types.specs.declared.Request.{Request}
+use Rattle.protocol_types.specs.declared.Operation.{Operation}
+use Rattle.protocol_types.specs.declared.Operation.the-variants.{Read, Write}
+use Rattle.protocol_types.specs.declared.Bill.{Bill}
+use Rattle.protocol_types.specs.declared.Entry.{Entry}
+use Rattle.protocol_types.specs.declared.Entry.the-variants.{Fetch, WriteBack, Drop, Complete, CompleteByBroadcast}
 
 -- ---- the rival's copies, slot by slot
 

@@ -5,11 +5,11 @@ use mathlib.Core.List.{List}
 use lib.ListN.{set}
 use lib.Seq.{sets}
 use lib.Dec.{ltb, eqb}
-use Rattle.types.specs.Lists.{zeros, first, other}
-use Rattle.types.specs.Board.{fetchPrice, writeBackPrice, slot, wordIndex, memoryIndex}
+use Rattle.protocol_types.specs.Lists.{zeros, first, other}
+use Rattle.protocol_types.specs.Board.{fetchPrice, writeBackPrice, slot, wordIndex, memoryIndex}
 use Rattle.protocol.specs.Tables.{Tables, tables, counter, block, lineWords, memoryWords, holds, sharing, marked}
-use Rattle.types.specs.declared.Setup.{Setup}
-use Rattle.types.specs.declared.Block.{Block}
+use Rattle.protocol_types.specs.declared.Setup.{Setup}
+use Rattle.protocol_types.specs.declared.Block.{Block}
 
 -- ---- a line
 

@@ -4,19 +4,19 @@ use mathlib.Core.Bool.{_&&_, cond}
 use mathlib.Core.List.{List, []}
 use lib.ListN.{length}
 use lib.Dec.{ltb, eqb}
-use Rattle.types.specs.Lists.{part}
-use Rattle.types.specs.Refusals.{noRefusal, unless, firstOf, wrongLength, unsoundTables, impossibleAccount}
-use Rattle.types.specs.Board.{setupRefusal, slots, slot, wordIndex}
+use Rattle.protocol_types.specs.Lists.{part}
+use Rattle.protocol_types.specs.Refusals.{noRefusal, unless, firstOf, wrongLength, unsoundTables, impossibleAccount}
+use Rattle.protocol_types.specs.Board.{setupRefusal, slots, slot, wordIndex}
 use Rattle.protocol.specs.Tables.{Tables, sized, fresh, directory, holds}
 use Rattle.protocol.specs.Soundness.{sound}
-use Rattle.types.specs.Conditions.{requestRefusal}
+use Rattle.protocol_types.specs.Conditions.{requestRefusal}
 use Rattle.protocol.specs.Requests.{served, value, bill}
 use Rattle.protocol.specs.Accounts.{possible}
 use Rattle.protocol.specs.Engines.{Engine, State}
-use Rattle.types.specs.declared.Setup.{Setup}
-use Rattle.types.specs.declared.Block.{Block}
-use Rattle.types.specs.declared.Request.{Request}
-use Rattle.types.specs.declared.Account.{Account}
+use Rattle.protocol_types.specs.declared.Setup.{Setup}
+use Rattle.protocol_types.specs.declared.Block.{Block}
+use Rattle.protocol_types.specs.declared.Request.{Request}
+use Rattle.protocol_types.specs.declared.Account.{Account}
 
 -- ---- starting: checks 1, 2
 

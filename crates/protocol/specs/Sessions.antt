@@ -6,21 +6,21 @@ use mathlib.Core.List.{List, [], _∷_}
 use lib.ListN.{length, replicate, set}
 use lib.Seq.{sets}
 use lib.Dec.{eqb}
-use Rattle.types.specs.Board.{slots}
+use Rattle.protocol_types.specs.Board.{slots}
 use Rattle.protocol.specs.Tables.{Tables, tables, fresh}
 use Rattle.protocol.specs.Accounts.{freshAccount, entered}
 use Rattle.protocol.specs.Engines.{answered, Outcome, run}
 use Rattle.protocol.specs.Runs.{startRefusal, started, looked, engine}
 use Rattle.protocol.specs.Rival.{Rival, rival}
 use Rattle.protocol.specs.Pricer.{price, priceTables, numberOf, placeOf, costOf}
-use Rattle.types.specs.declared.Setup.{Setup}
-use Rattle.types.specs.declared.Request.{Request}
-use Rattle.types.specs.declared.Operation.the-variants.{Read, Write}
-use Rattle.types.specs.declared.Bill.{Bill}
-use Rattle.types.specs.declared.Account.{Account}
-use Rattle.types.specs.declared.RunAnswer.{RunAnswer}
-use Rattle.types.specs.declared.Entry.{Entry}
-use Rattle.types.specs.declared.Entry.the-variants.{Fetch, WriteBack, Drop, Complete, CompleteByBroadcast}
+use Rattle.protocol_types.specs.declared.Setup.{Setup}
+use Rattle.protocol_types.specs.declared.Request.{Request}
+use Rattle.protocol_types.specs.declared.Operation.the-variants.{Read, Write}
+use Rattle.protocol_types.specs.declared.Bill.{Bill}
+use Rattle.protocol_types.specs.declared.Account.{Account}
+use Rattle.protocol_types.specs.declared.RunAnswer.{RunAnswer}
+use Rattle.protocol_types.specs.declared.Entry.{Entry}
+use Rattle.protocol_types.specs.declared.Entry.the-variants.{Fetch, WriteBack, Drop, Complete, CompleteByBroadcast}
 
 -- ---- short names for the rows
 

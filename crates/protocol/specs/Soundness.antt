@@ -4,11 +4,11 @@ use mathlib.Core.Path.{_≡_}
 use mathlib.Core.Logic.{_≢_}
 use mathlib.Core.Bool.{Bool, _&&_, not, cond}
 use lib.Dec.{leb, ltb, eqb}
-use Rattle.types.specs.Lists.{all}
-use Rattle.types.specs.Board.{fetchPrice, lineOf, slots}
+use Rattle.protocol_types.specs.Lists.{all}
+use Rattle.protocol_types.specs.Board.{fetchPrice, lineOf, slots}
 use Rattle.protocol.specs.Tables.{Tables, Sized, counter, block, mark, word, memoryWord, sharing}
-use Rattle.types.specs.declared.Setup.{Setup}
-use Rattle.types.specs.declared.Block.{Block}
+use Rattle.protocol_types.specs.declared.Setup.{Setup}
+use Rattle.protocol_types.specs.declared.Block.{Block}
 
 -- ---- as facts
 

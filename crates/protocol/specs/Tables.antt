@@ -5,10 +5,10 @@ use mathlib.Core.Bool.{Bool, _&&_}
 use mathlib.Core.List.{List, []}
 use lib.ListN.{length}
 use lib.Dec.{ltb, eqb}
-use Rattle.types.specs.Lists.{at, part, zeros, other}
-use Rattle.types.specs.Board.{slots, slot, wordIndex, memoryIndex, variables}
-use Rattle.types.specs.declared.Setup.{Setup}
-use Rattle.types.specs.declared.Block.{Block}
+use Rattle.protocol_types.specs.Lists.{at, part, zeros, other}
+use Rattle.protocol_types.specs.Board.{slots, slot, wordIndex, memoryIndex, variables}
+use Rattle.protocol_types.specs.declared.Setup.{Setup}
+use Rattle.protocol_types.specs.declared.Block.{Block}
 
 -- slot by slot a block number, a counter, a dirty mark and the words; and main memory
 pub record Tables : Type 0 where

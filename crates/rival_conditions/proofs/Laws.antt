@@ -4,11 +4,11 @@ use mathlib.Core.Path.{_≡_, refl, sym, ap, _∙_}
 use mathlib.Core.Logic.{_≢_}
 use mathlib.Core.Bool.{Bool, true, false, cond}
 use lib.Dec.{ltb}
-use Rattle.types.specs.Refusals.{noRefusal, firstOf, noSuchProcessor, noSuchBlock}
+use Rattle.protocol_types.specs.Refusals.{noRefusal, firstOf, noSuchProcessor, noSuchBlock}
 use Rattle.protocol.specs.Rival.{moveRefusal}
-use Rattle.types.specs.declared.Setup.{Setup}
-use Rattle.types.specs.declared.Block.{Block}
-use Rattle.types.proofs.Refusals.{first-refuses, first-passes}
+use Rattle.protocol_types.specs.declared.Setup.{Setup}
+use Rattle.protocol_types.specs.declared.Block.{Block}
+use Rattle.protocol_types.proofs.Refusals.{first-refuses, first-passes}
 
 move-first : (s : Setup) (i : ℕ) (b : Block) (x : ℕ) → moveRefusal s i b x ≡ firstOf (moveRefusal s i b noRefusal) x
 unfolding moveRefusal

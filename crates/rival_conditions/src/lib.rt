@@ -1,19 +1,19 @@
 // What an entry costs, and when it is refused.
+use protocol_types::Block;
+use protocol_types::Entry;
+use protocol_types::Operation;
+use protocol_types::Request;
+use protocol_types::Setup;
 use rival_copies::keeps;
 use rival_copies::keeps_at;
 use rival_copies::shared;
-use types::Block;
-use types::Entry;
-use types::Operation;
-use types::Request;
-use types::Setup;
 ghost use mathlib.Core.Path.{_≡_};
 ghost use mathlib.Core.Bool.{cond};
 ghost use mathlib.Core.List.{List, []};
 ghost use Prim.Native.Nat.{ℕ, _<_};
 ghost use lib.ListN.{length};
-ghost use Rattle.types.specs.Refusals.{noRefusal, unless, completionNotHeld};
-ghost use Rattle.types.specs.Board.{Fits, slots};
+ghost use Rattle.protocol_types.specs.Refusals.{noRefusal, unless, completionNotHeld};
+ghost use Rattle.protocol_types.specs.Board.{Fits, slots};
 ghost use Rattle.protocol.specs.Accounts.{cycles};
 ghost use Rattle.protocol.specs.Rival.{Rival, rival, RivalSized, keeps, shared, completionCycles, cost, moveRefusal, readyRefusal, completionRefusal, refusal};
 ghost use Rattle.rival_copies.specs.Copies.{rivalLent, rivalBefore, rivalMarked};
@@ -84,12 +84,12 @@ fn move_refusal(setup: Setup, processor: u32, block: Block) -> u32
     ensures { λ r. ⌜ r ≡ moveRefusal setup processor block noRefusal ⌝ }
 {
     if processor >= setup.processors {
-        return types::NO_SUCH_PROCESSOR;
+        return protocol_types::NO_SUCH_PROCESSOR;
     }
     if block.0 >= setup.blocks {
-        return types::NO_SUCH_BLOCK;
+        return protocol_types::NO_SUCH_BLOCK;
     }
-    types::NO_REFUSAL
+    protocol_types::NO_REFUSAL
 }
 
 // Then 23 at a fetch.
@@ -99,14 +99,14 @@ fn fetch_refusal(setup: Setup, processor: u32, block: Block, held: &[u32]) -> u3
     ensures { λ r. ⌜ ((b m : List ℕ) → r ≡ refusal setup (rival b (now (held .entry)) m) [] (Entry.Fetch processor block)) ⌝ }
 {
     let n = move_refusal(setup, processor, block);
-    if n != types::NO_REFUSAL {
+    if n != protocol_types::NO_REFUSAL {
         return n;
     }
     let k = setup.slot(processor, block);
     if held[k] != 0 {
-        return types::LINE_IN_USE;
+        return protocol_types::LINE_IN_USE;
     }
-    types::NO_REFUSAL
+    protocol_types::NO_REFUSAL
 }
 
 // 24 at a write-back.
@@ -122,13 +122,13 @@ fn write_back_refusal(
     ensures { λ r. ⌜ ((m : List ℕ) → r ≡ refusal setup (rivalMarked blocks held m) [] (Entry.WriteBack processor block)) ⌝ }
 {
     let n = move_refusal(setup, processor, block);
-    if n != types::NO_REFUSAL {
+    if n != protocol_types::NO_REFUSAL {
         return n;
     }
     if !keeps(setup, processor, block, blocks, held) {
-        return types::BLOCK_NOT_HELD;
+        return protocol_types::BLOCK_NOT_HELD;
     }
-    types::NO_REFUSAL
+    protocol_types::NO_REFUSAL
 }
 
 // 24, then 25 at a drop.
@@ -145,17 +145,17 @@ fn drop_refusal(
     ensures { λ r. ⌜ r ≡ refusal setup (rivalBefore blocks held marks) [] (Entry.Drop processor block) ⌝ }
 {
     let n = move_refusal(setup, processor, block);
-    if n != types::NO_REFUSAL {
+    if n != protocol_types::NO_REFUSAL {
         return n;
     }
     let k = setup.slot(processor, block);
     if !keeps_at(k, block, blocks, held) {
-        return types::BLOCK_NOT_HELD;
+        return protocol_types::BLOCK_NOT_HELD;
     }
     if marks[k] != 0 {
-        return types::DROP_OF_MARKED;
+        return protocol_types::DROP_OF_MARKED;
     }
-    types::NO_REFUSAL
+    protocol_types::NO_REFUSAL
 }
 
 // The refusal of an entry where no request is left: 26 at a completion.
@@ -168,8 +168,8 @@ pub fn refusal(setup: Setup, entry: Entry, blocks: &[u32], held: &[u32], marks: 
         Entry::Fetch(i, b) => fetch_refusal(setup, i, b, held),
         Entry::WriteBack(i, b) => write_back_refusal(setup, i, b, blocks, held),
         Entry::Drop(i, b) => drop_refusal(setup, i, b, blocks, held, marks),
-        Entry::Complete => types::NO_REQUEST_LEFT,
-        Entry::CompleteByBroadcast => types::NO_REQUEST_LEFT,
+        Entry::Complete => protocol_types::NO_REQUEST_LEFT,
+        Entry::CompleteByBroadcast => protocol_types::NO_REQUEST_LEFT,
     }
 }
 
@@ -181,9 +181,9 @@ fn held_refusal(setup: Setup, processor: u32, block: Block, blocks: &[u32], held
     ensures { λ r. ⌜ ((m : List ℕ) → r ≡ unless (keeps setup (rivalMarked blocks held m) processor block) completionNotHeld noRefusal) ⌝ }
 {
     if !keeps(setup, processor, block, blocks, held) {
-        return types::COMPLETION_NOT_HELD;
+        return protocol_types::COMPLETION_NOT_HELD;
     }
-    types::NO_REFUSAL
+    protocol_types::NO_REFUSAL
 }
 
 // At a completion 9, 27.
@@ -203,7 +203,7 @@ fn ready_refusal(
     match operation {
         Operation::Read(v) => {
             if broadcast {
-                return types::READ_BY_BROADCAST;
+                return protocol_types::READ_BY_BROADCAST;
             }
             let block = setup.block_of(v);
             held_refusal(setup, processor, block, blocks, held)
@@ -228,7 +228,7 @@ pub fn completion_refusal(
     ensures { λ r. ⌜ ((m : List ℕ) → r ≡ completionRefusal setup (rivalMarked blocks held m) request broadcast) ⌝ }
 {
     if request.processor >= setup.processors {
-        return types::NO_SUCH_PROCESSOR;
+        return protocol_types::NO_SUCH_PROCESSOR;
     }
     let operation = request.operation;
     let next = ready_refusal(setup, request.processor, operation, broadcast, blocks, held);

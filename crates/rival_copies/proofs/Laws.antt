@@ -2,10 +2,10 @@
 use Prim.Native.Nat.{ℕ, _<_}
 use mathlib.Core.Path.{_≡_, refl}
 use lib.Dec.{ltb}
-use Rattle.types.specs.Lists.{first, other}
+use Rattle.protocol_types.specs.Lists.{first, other}
 use Rattle.protocol.specs.Rival.{Rival, shared, moveRefusal}
-use Rattle.types.specs.declared.Setup.{Setup}
-use Rattle.types.specs.declared.Block.{Block}
+use Rattle.protocol_types.specs.declared.Setup.{Setup}
+use Rattle.protocol_types.specs.declared.Block.{Block}
 use Rattle.protocol.proofs.Rival.{move-legal}
 use Rattle.rival_copies.specs.Copies.{anotherKeeps}
 

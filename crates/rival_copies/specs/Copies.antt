@@ -5,13 +5,13 @@ use mathlib.Core.List.{List}
 use denote.Ref.{RefT, now}
 use lib.ListN.{set}
 use lib.Dec.{eqb}
-use Rattle.types.specs.Board.{slot}
+use Rattle.protocol_types.specs.Board.{slot}
 use Rattle.protocol.specs.Lent.{Lent}
 use Rattle.protocol.specs.Rival.{Rival, rival, keeps, shared}
-use Rattle.types.specs.declared.Setup.{Setup}
-use Rattle.types.specs.declared.Block.{Block}
-use Rattle.types.specs.declared.Entry.{Entry}
-use Rattle.types.specs.declared.Entry.the-variants.{Complete, CompleteByBroadcast}
+use Rattle.protocol_types.specs.declared.Setup.{Setup}
+use Rattle.protocol_types.specs.declared.Block.{Block}
+use Rattle.protocol_types.specs.declared.Entry.{Entry}
+use Rattle.protocol_types.specs.declared.Entry.the-variants.{Complete, CompleteByBroadcast}
 
 -- ---- the rival behind three references
 

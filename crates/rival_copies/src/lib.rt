@@ -1,15 +1,15 @@
 // A rival's copies: who has one, and what an entry does to them.
-use types::Block;
-use types::Entry;
-use types::Operation;
-use types::Request;
-use types::Setup;
+use protocol_types::Block;
+use protocol_types::Entry;
+use protocol_types::Operation;
+use protocol_types::Request;
+use protocol_types::Setup;
 ghost use mathlib.Core.Path.{_≡_};
 ghost use mathlib.Core.List.{List, [], _∷_};
 ghost use Prim.Native.Nat.{ℕ, _<_};
 ghost use lib.ListN.{length};
-ghost use Rattle.types.specs.Refusals.{noRefusal};
-ghost use Rattle.types.specs.Board.{Fits, slots};
+ghost use Rattle.protocol_types.specs.Refusals.{noRefusal};
+ghost use Rattle.protocol_types.specs.Board.{Fits, slots};
 ghost use Rattle.protocol.specs.Rival.{rival, RivalSized, keepsAt, keeps, shared, unmarked, rivalFetched, rivalWrittenBack, rivalDropped, played, refusal};
 ghost use Rattle.rival_copies.specs.Copies.{rivalLent, rivalBefore, rivalAfter, rivalMarked, anotherKeeps, copyUnmarked, loneMarked, completion};
 

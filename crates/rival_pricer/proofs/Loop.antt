@@ -12,19 +12,19 @@ use lib.ListN.{length, getD, drop, drop-of-length-le}
 use lib.Seq.{drop-cons}
 use lib.Dec.{ltb, eqb}
 use borrow.Author.Tests.{ltb-true, ltb-false, eqb-true, eq-eqb}
-use Rattle.types.specs.Refusals.{noRefusal, requestsLeft}
-use Rattle.types.specs.Board.{Fits}
+use Rattle.protocol_types.specs.Refusals.{noRefusal, requestsLeft}
+use Rattle.protocol_types.specs.Board.{Fits}
 use Rattle.protocol.specs.Accounts.{nothing, plus, cycles}
 use Rattle.protocol.specs.Rival.{Rival, RivalSized, noCopies, played, left, cost, refusal, endRefusal}
 use Rattle.protocol.specs.Pricer.{Verdict, accepted, refused, ending, judged, verdict, priceEntryLimit, priceRefusal, answerTo, price, copiesAfter, priceTables}
-use Rattle.types.specs.declared.Setup.{Setup}
-use Rattle.types.specs.declared.Request.{Request}
-use Rattle.types.specs.declared.Bill.{Bill}
-use Rattle.types.specs.declared.Entry.{Entry}
-use Rattle.types.specs.declared.Entry.the-variants.{Fetch, WriteBack, Drop, Complete, CompleteByBroadcast}
-use Rattle.types.specs.declared.PriceAnswer.the-variants.{Accepted, Refused}
-use Rattle.types.proofs.Laws.{choice, both-true}
-use Rattle.types.proofs.Conditions.{no-request}
+use Rattle.protocol_types.specs.declared.Setup.{Setup}
+use Rattle.protocol_types.specs.declared.Request.{Request}
+use Rattle.protocol_types.specs.declared.Bill.{Bill}
+use Rattle.protocol_types.specs.declared.Entry.{Entry}
+use Rattle.protocol_types.specs.declared.Entry.the-variants.{Fetch, WriteBack, Drop, Complete, CompleteByBroadcast}
+use Rattle.protocol_types.specs.declared.PriceAnswer.the-variants.{Accepted, Refused}
+use Rattle.protocol_types.proofs.Laws.{choice, both-true}
+use Rattle.protocol_types.proofs.Conditions.{no-request}
 use Rattle.protocol.proofs.Rival.{sized-noCopies, sized-played}
 use Rattle.rival_copies.specs.Copies.{completion}
 use Rattle.rival_pricing.specs.declared.Pricing.{Pricing}

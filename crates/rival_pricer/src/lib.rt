@@ -1,8 +1,8 @@
 // The price of a rival's schedule for a list of requests.
-use types::Entry;
-use types::PriceAnswer;
-use types::Request;
-use types::Setup;
+use protocol_types::Entry;
+use protocol_types::PriceAnswer;
+use protocol_types::Request;
+use protocol_types::Setup;
 ghost use mathlib.Core.Path.{_≡_};
 ghost use Rattle.protocol.specs.Pricer.{price as priced, priceTables};
 ghost use Rattle.rival_copies.specs.Copies.{rivalBefore, rivalAfter};

@@ -3,16 +3,16 @@ use Prim.Native.Nat.{ℕ, _+_, _*_, _≤_, _<_}
 use mathlib.Core.Bool.{Bool, true, false, _&&_, cond}
 use mathlib.Core.List.{List, [], _∷_}
 use lib.Dec.{ltb, eqb}
-use Rattle.types.specs.Refusals.{noRefusal, requestsLeft}
-use Rattle.types.specs.Board.{Fits}
+use Rattle.protocol_types.specs.Refusals.{noRefusal, requestsLeft}
+use Rattle.protocol_types.specs.Board.{Fits}
 use Rattle.protocol.specs.Accounts.{cycles}
 use Rattle.protocol.specs.Rival.{Rival, RivalSized, noCopies, played, cost, refusal}
 use Rattle.protocol.specs.Pricer.{priceEntryLimit, priceRefusal}
-use Rattle.types.specs.declared.Setup.{Setup}
-use Rattle.types.specs.declared.Request.{Request}
-use Rattle.types.specs.declared.Entry.{Entry}
-use Rattle.types.specs.declared.Entry.the-variants.{Fetch, WriteBack, Drop, Complete, CompleteByBroadcast}
-use Rattle.types.specs.declared.PriceAnswer.the-variants.{Accepted, Refused}
+use Rattle.protocol_types.specs.declared.Setup.{Setup}
+use Rattle.protocol_types.specs.declared.Request.{Request}
+use Rattle.protocol_types.specs.declared.Entry.{Entry}
+use Rattle.protocol_types.specs.declared.Entry.the-variants.{Fetch, WriteBack, Drop, Complete, CompleteByBroadcast}
+use Rattle.protocol_types.specs.declared.PriceAnswer.the-variants.{Accepted, Refused}
 use Rattle.rival_copies.specs.Copies.{completion}
 use Rattle.rival_pricing.specs.declared.Pricing.{Pricing}
 

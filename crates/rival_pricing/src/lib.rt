@@ -1,12 +1,12 @@
 // Pricing between two entries: at a place, waiting for a request, stopped; and what is checked before the first entry.
 use parts::clear;
-use types::Entry;
-use types::PriceAnswer;
-use types::Setup;
+use protocol_types::Entry;
+use protocol_types::PriceAnswer;
+use protocol_types::Setup;
 ghost use mathlib.Core.Path.{_≡_};
 ghost use mathlib.Core.Bool.{_&&_};
 ghost use lib.Dec.{leb};
-ghost use Rattle.types.specs.Board.{Fits};
+ghost use Rattle.protocol_types.specs.Board.{Fits};
 ghost use Rattle.protocol.specs.Rival.{rivalSized, RivalSized, noCopies};
 ghost use Rattle.protocol.specs.Pricer.{priceRequestLimit, priceEntryLimit, priceRefusal};
 ghost use Rattle.rival_copies.specs.Copies.{rivalLent, rivalBefore, rivalAfter};
@@ -168,7 +168,7 @@ pub fn reach<'a>(
             held,
             marks,
             p,
-            types::REQUESTS_LEFT,
+            protocol_types::REQUESTS_LEFT,
             p.entries,
         );
     }
@@ -214,7 +214,7 @@ fn is_sized(setup: Setup, blocks: &[u32], held: &[u32], marks: &[u32]) -> bool
 fn few_enough(entries: usize, requests: usize) -> bool
     ensures { λ r. ⌜ r ≡ leb requests priceRequestLimit && leb entries priceEntryLimit ⌝ }
 {
-    if requests > types::REQUEST_LIMIT as usize {
+    if requests > protocol_types::REQUEST_LIMIT as usize {
         return false;
     }
     entries <= PRICE_ENTRY_LIMIT
@@ -232,16 +232,16 @@ pub fn price_refusal(
     ensures { λ r. ⌜ r ≡ priceRefusal setup (rivalBefore blocks held marks) entries requests ⌝ }
 {
     let refusal = setup.refusal();
-    if refusal != types::NO_REFUSAL {
+    if refusal != protocol_types::NO_REFUSAL {
         return refusal;
     }
     let fit = is_sized(setup, blocks, held, marks);
     let few = few_enough(entries, requests);
     if !fit {
-        return types::WRONG_LENGTH;
+        return protocol_types::WRONG_LENGTH;
     }
     if !few {
-        return types::TOO_MANY;
+        return protocol_types::TOO_MANY;
     }
-    types::NO_REFUSAL
+    protocol_types::NO_REFUSAL
 }

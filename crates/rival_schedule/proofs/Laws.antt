@@ -8,20 +8,20 @@ use mathlib.Core.List.{List, [], _∷_}
 use native.Mathlib.Omega.{arith}
 use lib.Dec.{leb}
 use borrow.Author.Tests.{leb-true, eqb-true, eq-eqb, ne-eqb}
-use Rattle.types.specs.Refusals.{noRefusal, unless, wrongLength, tooMany}
-use Rattle.types.specs.Board.{setupRefusal, Fits, blockOf}
+use Rattle.protocol_types.specs.Refusals.{noRefusal, unless, wrongLength, tooMany}
+use Rattle.protocol_types.specs.Board.{setupRefusal, Fits, blockOf}
 use Rattle.protocol.specs.Accounts.{cycles}
 use Rattle.protocol.specs.Rival.{Rival, rivalSized, RivalSized, noCopies, shared, played, completionBy, completionCycles, cost, completionRefusal, refusal}
 use Rattle.protocol.specs.Pricer.{priceRequestLimit, priceEntryLimit, priceRefusal}
-use Rattle.types.specs.declared.Setup.{Setup}
-use Rattle.types.specs.declared.Request.{Request}
-use Rattle.types.specs.declared.Operation.{Operation}
-use Rattle.types.specs.declared.Operation.the-variants.{Read, Write}
-use Rattle.types.specs.declared.Entry.{Entry}
-use Rattle.types.specs.declared.Entry.the-variants.{Fetch, WriteBack, Drop, Complete, CompleteByBroadcast}
-use Rattle.types.proofs.Laws.{both-true, three-true, chosen-zero, choice}
-use Rattle.types.proofs.Board.{setup-fits}
-use Rattle.types.proofs.Refusals.{neither-refuses}
+use Rattle.protocol_types.specs.declared.Setup.{Setup}
+use Rattle.protocol_types.specs.declared.Request.{Request}
+use Rattle.protocol_types.specs.declared.Operation.{Operation}
+use Rattle.protocol_types.specs.declared.Operation.the-variants.{Read, Write}
+use Rattle.protocol_types.specs.declared.Entry.{Entry}
+use Rattle.protocol_types.specs.declared.Entry.the-variants.{Fetch, WriteBack, Drop, Complete, CompleteByBroadcast}
+use Rattle.protocol_types.proofs.Laws.{both-true, three-true, chosen-zero, choice}
+use Rattle.protocol_types.proofs.Board.{setup-fits}
+use Rattle.protocol_types.proofs.Refusals.{neither-refuses}
 use Rattle.rival_copies.specs.Copies.{completion}
 use Rattle.rival_pricing.specs.Stages.{awaits, broadcasts, PriceStage, priceStage, pricingAt, advanced, waiting, pricingStopped, rejected, reached, priceTurned, priceBegun, took}
 

@@ -1,4 +1,7 @@
 // A rival's schedule priced entry by entry: the start, an entry, and the request of a completion.
+use protocol_types::Entry;
+use protocol_types::Request;
+use protocol_types::Setup;
 use rival_conditions::completion_cycles;
 use rival_conditions::completion_refusal;
 use rival_conditions::cost;
@@ -16,9 +19,6 @@ use rival_pricing::reach;
 use rival_pricing::reject;
 use rival_pricing::stop_pricing;
 use rival_pricing::waiting;
-use types::Entry;
-use types::Request;
-use types::Setup;
 ghost use mathlib.Core.Path.{_≡_};
 ghost use Rattle.rival_copies.specs.Copies.{rivalLent, rivalBefore, rivalAfter};
 ghost use Rattle.rival_pricing.specs.Stages.{priceStage, priceBegun, took, completed, PriceReady, Due};
@@ -36,7 +36,7 @@ pub fn begin<'a>(
 {
     let p = pricing_at(entries, requests, 0, 0, 0);
     let n = price_refusal(setup, &*blocks, &*held, &*marks, entries, requests);
-    if n != types::NO_REFUSAL {
+    if n != protocol_types::NO_REFUSAL {
         return stop_pricing(p, n, 0);
     }
     clear_all(setup, blocks, held, marks);
@@ -59,7 +59,7 @@ pub fn take<'a>(
         return waiting(p, broadcasts(entry));
     }
     let n = refusal(setup, entry, &*blocks, &*held, &*marks);
-    if n != types::NO_REFUSAL {
+    if n != protocol_types::NO_REFUSAL {
         return reject(setup, blocks, held, marks, p, n, p.at);
     }
     play(setup, entry, blocks, held, marks);
@@ -79,7 +79,7 @@ pub fn complete<'a>(
     ensures { λ r. ⌜ priceStage r (rivalAfter blocks held marks) ≡ completed setup (priceStage p (rivalBefore blocks held marks)) request ⌝ }
 {
     let n = completion_refusal(setup, request, p.by_broadcast, &*blocks, &*held);
-    if n != types::NO_REFUSAL {
+    if n != protocol_types::NO_REFUSAL {
         return reject(setup, blocks, held, marks, p, n, p.at);
     }
     let cycles = completion_cycles(setup, request, p.by_broadcast, &*blocks, &*held);

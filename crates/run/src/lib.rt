@@ -1,8 +1,8 @@
 // A run over a lent list of requests, on the lent tables and the lent account.
-use types::Account;
-use types::Request;
-use types::RunAnswer;
-use types::Setup;
+use protocol_types::Account;
+use protocol_types::Request;
+use protocol_types::RunAnswer;
+use protocol_types::Setup;
 ghost use mathlib.Core.Path.{_≡_};
 ghost use Rattle.protocol.specs.Lent.{before, after};
 ghost use Rattle.protocol.specs.Engines.{run as ran};

@@ -9,13 +9,13 @@ use native.Mathlib.Omega.{arith}
 use lib.ListN.{length, set, length-set}
 use lib.Dec.{ltb, eqb}
 use borrow.Author.Tests.{eqb-true, ltb-true, eq-eqb, ne-eqb}
-use Rattle.types.specs.Refusals.{noRefusal}
-use Rattle.types.specs.Board.{Fits}
+use Rattle.protocol_types.specs.Refusals.{noRefusal}
+use Rattle.protocol_types.specs.Board.{Fits}
 use Rattle.protocol.specs.Accounts.{nothing, plus, billOf, possible, Spent}
 use Rattle.protocol.specs.Engines.{Engine}
-use Rattle.types.specs.declared.Setup.{Setup}
-use Rattle.types.specs.declared.Account.{Account}
-use Rattle.types.proofs.Laws.{choice}
+use Rattle.protocol_types.specs.declared.Setup.{Setup}
+use Rattle.protocol_types.specs.declared.Account.{Account}
+use Rattle.protocol_types.proofs.Laws.{choice}
 use Rattle.protocol.proofs.Accounts.{spent-none, spent-plus, spent-numbers, possible-is}
 use Rattle.protocol.proofs.Engines.{Serving}
 use Rattle.run_progress.specs.declared.Progress.{Progress}

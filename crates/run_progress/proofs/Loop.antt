@@ -12,13 +12,13 @@ use lib.ListN.{length, set, getD, take, drop, take-append-drop, length-set, drop
 use lib.Seq.{length-take-le, drop-cons, take-suc-set, drop-set-lt}
 use lib.Dec.{ltb, eqb}
 use borrow.Author.Tests.{ltb-false, eqb-true}
-use Rattle.types.specs.Lists.{tail}
-use Rattle.types.specs.Refusals.{noRefusal}
-use Rattle.types.specs.Board.{Fits}
+use Rattle.protocol_types.specs.Lists.{tail}
+use Rattle.protocol_types.specs.Refusals.{noRefusal}
+use Rattle.protocol_types.specs.Board.{Fits}
 use Rattle.protocol.specs.Accounts.{nothing, entered}
 use Rattle.protocol.specs.Engines.{Engine, answered, Outcome, endedBy, onward, runFrom, run}
-use Rattle.types.specs.declared.Setup.{Setup}
-use Rattle.types.specs.declared.Account.{Account}
+use Rattle.protocol_types.specs.declared.Setup.{Setup}
+use Rattle.protocol_types.specs.declared.Account.{Account}
 use Rattle.protocol.proofs.Accounts.{account-path}
 use Rattle.protocol.proofs.Engines.{Serving}
 use Rattle.run_progress.specs.Progress.{Room, begun, RunStage, Ready, taken, refused, nextRefusal, turned, grown, GrowthFits, growthOf, outcome}

@@ -5,14 +5,14 @@ use mathlib.Core.Bool.{true, false, cond}
 use mathlib.Core.List.{List}
 use lib.ListN.{length, set}
 use lib.Dec.{ltb, eqb}
-use Rattle.types.specs.Refusals.{noRefusal}
-use Rattle.types.specs.Board.{Fits}
+use Rattle.protocol_types.specs.Refusals.{noRefusal}
+use Rattle.protocol_types.specs.Board.{Fits}
 use Rattle.protocol.specs.Accounts.{nothing, plus, entered, billOf, possible, Spent}
 use Rattle.protocol.specs.Engines.{Engine, Outcome, answered}
-use Rattle.types.specs.declared.Setup.{Setup}
-use Rattle.types.specs.declared.Bill.{Bill}
-use Rattle.types.specs.declared.Account.{Account}
-use Rattle.types.specs.declared.RunAnswer.{RunAnswer}
+use Rattle.protocol_types.specs.declared.Setup.{Setup}
+use Rattle.protocol_types.specs.declared.Bill.{Bill}
+use Rattle.protocol_types.specs.declared.Account.{Account}
+use Rattle.protocol_types.specs.declared.RunAnswer.{RunAnswer}
 use Rattle.run_progress.specs.declared.Progress.{Progress}
 
 -- ---- sums that fit

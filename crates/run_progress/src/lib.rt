@@ -1,14 +1,14 @@
 // A run between two requests, whatever the engine: what is checked of the account, and how the run goes on or stops.
-use types::Account;
-use types::Bill;
-use types::RunAnswer;
-use types::Setup;
+use protocol_types::Account;
+use protocol_types::Bill;
+use protocol_types::RunAnswer;
+use protocol_types::Setup;
 ghost use mathlib.Core.Path.{_≡_};
 ghost use mathlib.Core.Bool.{false, cond};
 ghost use lib.Dec.{ltb, eqb};
 ghost use Prim.Native.Nat.{_*_, _≤_, _<_, _^_};
-ghost use Rattle.types.specs.Refusals.{noRefusal};
-ghost use Rattle.types.specs.Board.{Fits};
+ghost use Rattle.protocol_types.specs.Refusals.{noRefusal};
+ghost use Rattle.protocol_types.specs.Board.{Fits};
 ghost use Rattle.protocol.specs.Accounts.{plus, possible};
 ghost use Rattle.run_progress.specs.Progress.{Sums, begun, stopped, advanced, grown, GrowthFits, growthOf};
 
@@ -58,7 +58,7 @@ pub fn is_possible(setup: Setup, account: Account) -> bool
 fn goes_on(refusal: u32, count: usize) -> bool
     ensures { λ r. ⌜ r ≡ cond (eqb refusal noRefusal) (ltb 0 count) false ⌝ }
 {
-    if refusal != types::NO_REFUSAL {
+    if refusal != protocol_types::NO_REFUSAL {
         return false;
     }
     0 < count
@@ -117,7 +117,7 @@ pub fn advance(p: Progress, more: Bill, taken: usize, count: usize) -> Progress
         bill: total,
         answer: RunAnswer {
             taken: taken,
-            refusal: types::NO_REFUSAL,
+            refusal: protocol_types::NO_REFUSAL,
             place: 0,
         },
     }

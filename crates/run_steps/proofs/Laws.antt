@@ -9,20 +9,20 @@ use native.Mathlib.Omega.{arith}
 use lib.ListN.{length, List·getD-eq-default}
 use lib.Dec.{eqb}
 use borrow.Author.Tests.{eqb-true}
-use Rattle.types.specs.Refusals.{noRefusal, unless, wrongLength, unsoundTables, impossibleAccount}
-use Rattle.types.specs.Board.{Fits, setupRefusal, slots}
+use Rattle.protocol_types.specs.Refusals.{noRefusal, unless, wrongLength, unsoundTables, impossibleAccount}
+use Rattle.protocol_types.specs.Board.{Fits, setupRefusal, slots}
 use Rattle.protocol.specs.Tables.{Tables, sized, counter, block}
 use Rattle.protocol.specs.Soundness.{Sound, sound}
-use Rattle.types.specs.Conditions.{Valid}
+use Rattle.protocol_types.specs.Conditions.{Valid}
 use Rattle.protocol.specs.Accounts.{possible}
 use Rattle.protocol.specs.Runs.{runRefusal, engine}
-use Rattle.types.specs.declared.Setup.{Setup}
-use Rattle.types.specs.declared.Account.{Account}
-use Rattle.types.proofs.Laws.{Same, same, apart, same?, both-true, chosen-zero}
-use Rattle.types.proofs.Refusals.{neither-refuses}
-use Rattle.types.proofs.Board.{setup-fits}
+use Rattle.protocol_types.specs.declared.Setup.{Setup}
+use Rattle.protocol_types.specs.declared.Account.{Account}
+use Rattle.protocol_types.proofs.Laws.{Same, same, apart, same?, both-true, chosen-zero}
+use Rattle.protocol_types.proofs.Refusals.{neither-refuses}
+use Rattle.protocol_types.proofs.Board.{setup-fits}
 use Rattle.protocol.proofs.Checked.{passed-sound}
-use Rattle.types.proofs.Conditions.{request-passed}
+use Rattle.protocol_types.proofs.Conditions.{request-passed}
 use Rattle.protocol.proofs.Requests.{bill-spent}
 use Rattle.protocol.proofs.Engines.{Serving}
 use Rattle.engine.specs.Usable.{Usable}

@@ -5,13 +5,13 @@ use mathlib.Core.Bool.{true, false}
 use mathlib.Core.List.{List}
 use lib.ListN.{length, getD}
 use Rattle.protocol.specs.Tables.{Tables}
-use Rattle.types.specs.Conditions.{Valid}
+use Rattle.protocol_types.specs.Conditions.{Valid}
 use Rattle.protocol.specs.Engines.{run}
 use Rattle.protocol.specs.Runs.{runRefusal, engine}
-use Rattle.types.specs.declared.Setup.{Setup}
-use Rattle.types.specs.declared.Request.{Request}
-use Rattle.types.specs.declared.Account.{Account}
-use Rattle.types.proofs.Conditions.{no-request}
+use Rattle.protocol_types.specs.declared.Setup.{Setup}
+use Rattle.protocol_types.specs.declared.Request.{Request}
+use Rattle.protocol_types.specs.declared.Account.{Account}
+use Rattle.protocol_types.proofs.Conditions.{no-request}
 use Rattle.engine.specs.Usable.{Usable}
 use Rattle.run_progress.specs.Progress.{begun, grown, GrowthFits, growthOf, outcome, RunStage, runStage, turned}
 use Rattle.run_progress.proofs.Loop as any

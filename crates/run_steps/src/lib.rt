@@ -1,8 +1,8 @@
 // The covered halves of a run: what is checked before its first request, and one request.
+use protocol_types::Account;
+use protocol_types::Request;
+use protocol_types::Setup;
 use run_progress::Progress;
-use types::Account;
-use types::Request;
-use types::Setup;
 ghost use mathlib.Core.Path.{_≡_};
 ghost use Rattle.protocol.specs.Lent.{lent, before, after};
 ghost use Rattle.protocol.specs.Runs.{runRefusal, engine};
@@ -24,7 +24,7 @@ fn run_refusal<'a>(
     ensures { λ r. ⌜ r ≡ runRefusal setup (before blocks counters marks words memory) account count (now (values .entry)) ⌝ }
 {
     let refusal = setup.refusal();
-    if refusal != types::NO_REFUSAL {
+    if refusal != protocol_types::NO_REFUSAL {
         return refusal;
     }
     if !engine_tables::lengths_fit(
@@ -35,18 +35,18 @@ fn run_refusal<'a>(
         words.len(),
         memory.len(),
     ) {
-        return types::WRONG_LENGTH;
+        return protocol_types::WRONG_LENGTH;
     }
     if values.len() != count {
-        return types::WRONG_LENGTH;
+        return protocol_types::WRONG_LENGTH;
     }
     if !engine_soundness::is_sound(setup, blocks, counters, marks, words, memory) {
-        return types::UNSOUND_TABLES;
+        return protocol_types::UNSOUND_TABLES;
     }
     if !run_progress::is_possible(setup, account) {
-        return types::IMPOSSIBLE_ACCOUNT;
+        return protocol_types::IMPOSSIBLE_ACCOUNT;
     }
-    types::NO_REFUSAL
+    protocol_types::NO_REFUSAL
 }
 
 // A run before its first request.
@@ -97,7 +97,7 @@ pub fn turn<'a>(
     let taken = p.answer.taken;
     let count = values.len();
     let refusal = setup.request_refusal(account.requests + taken as u32, request);
-    if refusal != types::NO_REFUSAL {
+    if refusal != protocol_types::NO_REFUSAL {
         return run_progress::stop(p, refusal);
     }
     let served = engine::serve(setup, request, blocks, counters, marks, words, memory);

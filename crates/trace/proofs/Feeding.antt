@@ -9,7 +9,7 @@ use lib.ListN.{length, take, drop, getD, length-drop}
 use lib.Seq.{drop-cons, drop-length, drop-drop, take-all, take-length}
 use lib.Dec.{eqb}
 use borrow.Author.Tests.{not-true, not-false, eq-eqb}
-use Rattle.types.specs.Refusals.{noRefusal}
+use Rattle.protocol_types.specs.Refusals.{noRefusal}
 use Rattle.trace_din.specs.Lines.{newline, isText, leading, behind, parsed}
 use Rattle.trace_din.specs.Places.{EndsAt}
 use Rattle.trace_din.specs.declared.Parsed.{Parsed}

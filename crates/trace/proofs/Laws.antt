@@ -6,12 +6,12 @@ use mathlib.Core.List.{List}
 use native.Mathlib.Omega.{arith}
 use lib.Dec.{eqb}
 use borrow.Author.Tests.{eq-eqb, ne-eqb}
-use Rattle.types.specs.Refusals.{noRefusal}
-use Rattle.types.specs.Board.{slots}
+use Rattle.protocol_types.specs.Refusals.{noRefusal}
+use Rattle.protocol_types.specs.Board.{slots}
 use Rattle.protocol.specs.Tables.{Tables, sized, fresh}
 use Rattle.protocol.specs.Accounts.{freshAccount}
 use Rattle.protocol.specs.Runs.{startRefusal, started}
-use Rattle.types.proofs.Laws.{choice, at-zeros}
+use Rattle.protocol_types.proofs.Laws.{choice, at-zeros}
 use Rattle.protocol.proofs.Lengths.{sized-fresh}
 use Rattle.protocol.proofs.Accounts.{spent-none}
 use Rattle.engine.specs.Usable.{Usable}

@@ -3,7 +3,7 @@ use Prim.Native.Nat.{ℕ}
 use mathlib.Core.Bool.{cond}
 use mathlib.Core.List.{List, [], _∷_}
 use lib.Dec.{eqb}
-use Rattle.types.specs.Refusals.{noRefusal}
+use Rattle.protocol_types.specs.Refusals.{noRefusal}
 use Rattle.protocol.specs.Tables.{Tables}
 use Rattle.trace_din.specs.Lines.{newline}
 use Rattle.trace_scan.specs.Automaton.{scanParsed}

@@ -1,9 +1,9 @@
 // A din trace counted over lent tables, in chunks of any size. Only a few numbers are kept between two chunks.
+use protocol_types::Account;
 use trace_count::Count;
 use trace_count::end_line;
 use trace_lines::Report;
 use trace_lines::trace_setup;
-use types::Account;
 ghost use mathlib.Core.Path.{_≡_};
 ghost use Prim.Native.Nat.{_≤_};
 ghost use lib.ListN.{length, drop};
@@ -41,7 +41,7 @@ fn feed_lines(
         }
         let parsed = first.parsed;
         so_far = end_line(so_far, parsed, blocks, counters, marks, words, memory);
-        if so_far.refusal != types::NO_REFUSAL {
+        if so_far.refusal != protocol_types::NO_REFUSAL {
             return so_far;
         }
         i = i + end + 1;
@@ -63,7 +63,7 @@ pub fn feed(
     ensures { λ r. ⌜ countStage r (after blocks counters marks words memory)
         ≡ fed (countStage count (before blocks counters marks words memory)) (now (bytes .entry)) ⌝ }
 {
-    if count.refusal != types::NO_REFUSAL {
+    if count.refusal != protocol_types::NO_REFUSAL {
         return count;
     }
     let end = trace_din::line_end(bytes, 0);
@@ -81,7 +81,7 @@ pub fn feed(
         words,
         memory,
     );
-    if next.refusal != types::NO_REFUSAL {
+    if next.refusal != protocol_types::NO_REFUSAL {
         return next;
     }
     feed_lines(next, bytes, end + 1, blocks, counters, marks, words, memory)
@@ -100,7 +100,7 @@ pub fn finish(
     ensures { λ r. ⌜ reporting r (after blocks counters marks words memory)
         ≡ finished (countStage count (before blocks counters marks words memory)) ⌝ }
 {
-    if count.refusal != types::NO_REFUSAL {
+    if count.refusal != protocol_types::NO_REFUSAL {
         return count.reported();
     }
     let line = count.line;
@@ -140,7 +140,7 @@ pub fn count_trace(
         ≡ endedOn (before blocks counters marks words memory) (now (bytes .entry)) ⌝ }
 {
     let started = engine_tables::start(trace_setup(), blocks, counters, marks, words, memory);
-    if started != types::NO_REFUSAL {
+    if started != protocol_types::NO_REFUSAL {
         return Report {
             account: Account {
                 requests: 0,

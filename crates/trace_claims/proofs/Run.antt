@@ -7,14 +7,14 @@ use mathlib.Core.List.{List, [], _∷_, _++_}
 use lib.Dec.{eqb}
 use lib.ListN.{length}
 use borrow.Author.Tests.{eq-eqb}
-use Rattle.types.specs.Lists.{tail}
-use Rattle.types.specs.Refusals.{noRefusal, firstOf}
+use Rattle.protocol_types.specs.Lists.{tail}
+use Rattle.protocol_types.specs.Refusals.{noRefusal, firstOf}
 use Rattle.protocol.specs.Tables.{Tables, fresh}
-use Rattle.types.specs.Conditions.{requestRefusal}
+use Rattle.protocol_types.specs.Conditions.{requestRefusal}
 use Rattle.protocol.specs.Accounts.{freshAccount}
 use Rattle.protocol.specs.Engines.{Outcome, runFrom, run, State}
 use Rattle.protocol.specs.Runs.{engine, opening}
-use Rattle.types.specs.declared.Request.{Request}
+use Rattle.protocol_types.specs.declared.Request.{Request}
 use Rattle.competitive.proofs.Fresh.{sound-fresh}
 use Rattle.competitive.proofs.Lawful.{lawful, fresh-possible}
 use Rattle.trace_din.specs.Lines.{linesOf, parsed}

@@ -2,14 +2,14 @@
 use Prim.Native.Nat.{ℕ, _*_, _≤_}
 use mathlib.Core.Path.{_≡_}
 use mathlib.Core.List.{List, [], _∷_}
-use Rattle.types.specs.Refusals.{firstOf}
+use Rattle.protocol_types.specs.Refusals.{firstOf}
 use Rattle.protocol.specs.Tables.{Tables, fresh}
 use Rattle.protocol.specs.Accounts.{freshAccount, cycles, cyclesOf}
 use Rattle.protocol.specs.Engines.{Outcome, run, Run, takenAll, spent}
 use Rattle.protocol.specs.Runs.{engine}
 use Rattle.protocol.specs.Rival.{noCopies, Legal, costs}
-use Rattle.types.specs.declared.Request.{Request}
-use Rattle.types.specs.declared.Entry.{Entry}
+use Rattle.protocol_types.specs.declared.Request.{Request}
+use Rattle.protocol_types.specs.declared.Entry.{Entry}
 use Rattle.trace_lines.specs.Trace.{traceSetup, ended, report}
 use Rattle.trace_claims.specs.Requests.{traceRequests, formRefusalOf}
 

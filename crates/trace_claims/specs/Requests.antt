@@ -3,8 +3,8 @@ use Prim.Native.Nat.{ℕ, _+_}
 use mathlib.Core.Bool.{cond}
 use mathlib.Core.List.{List, [], _∷_, _++_}
 use lib.Dec.{eqb}
-use Rattle.types.specs.Refusals.{noRefusal, malformedLine, unknownLabel, firstOf}
-use Rattle.types.specs.declared.Request.{Request}
+use Rattle.protocol_types.specs.Refusals.{noRefusal, malformedLine, unknownLabel, firstOf}
+use Rattle.protocol_types.specs.declared.Request.{Request}
 use Rattle.trace_din.specs.Lines.{linesOf, parsed}
 use Rattle.trace_lines.specs.Trace.{interpreted}
 use Rattle.trace_lines.specs.declared.Meaning.{Meaning}

@@ -6,17 +6,17 @@ use mathlib.Core.Bool.{false}
 use native.Mathlib.Omega.{arith}
 use lib.Dec.{eqb}
 use borrow.Author.Tests.{eqb-true, ne-eqb}
-use Rattle.types.specs.Refusals.{noRefusal}
+use Rattle.protocol_types.specs.Refusals.{noRefusal}
 use Rattle.protocol.specs.Tables.{Tables}
-use Rattle.types.specs.Conditions.{requestRefusal}
+use Rattle.protocol_types.specs.Conditions.{requestRefusal}
 use Rattle.protocol.specs.Requests.{served, bill}
 use Rattle.protocol.specs.Accounts.{entered, billOf}
-use Rattle.types.specs.declared.Request.{Request}
-use Rattle.types.specs.declared.Bill.{Bill}
-use Rattle.types.specs.declared.Account.{Account}
-use Rattle.types.proofs.Laws.{choice}
+use Rattle.protocol_types.specs.declared.Request.{Request}
+use Rattle.protocol_types.specs.declared.Bill.{Bill}
+use Rattle.protocol_types.specs.declared.Account.{Account}
+use Rattle.protocol_types.proofs.Laws.{choice}
 use Rattle.protocol.proofs.Accounts.{spent-plus}
-use Rattle.types.proofs.Conditions.{request-passed}
+use Rattle.protocol_types.proofs.Conditions.{request-passed}
 use Rattle.protocol.proofs.Requests.{bill-spent}
 use Rattle.engine.proofs.Usable.{usable-served}
 use Rattle.trace_scan.specs.Automaton.{newLine}

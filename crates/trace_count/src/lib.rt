@@ -1,17 +1,17 @@
 // What a trace has come to so far, and its current line counted over the lent tables.
+use protocol_types::Account;
+use protocol_types::Bill;
+use protocol_types::Request;
 use trace_din::Parsed;
 use trace_lines::Meaning;
 use trace_lines::Report;
 use trace_lines::interpret;
 use trace_lines::trace_setup;
 use trace_scan::Line;
-use types::Account;
-use types::Bill;
-use types::Request;
 ghost use mathlib.Core.Path.{_≡_};
 ghost use Prim.Native.Nat.{_<_};
 ghost use Rattle.protocol.specs.Lent.{lent, before, after};
-ghost use Rattle.types.specs.Conditions.{requestLimit};
+ghost use Rattle.protocol_types.specs.Conditions.{requestLimit};
 ghost use Rattle.protocol.specs.Accounts.{entered, Spent, billOf};
 ghost use Rattle.trace_lines.specs.Trace.{traceSetup};
 ghost use Rattle.trace_count.specs.Counting.{countStage, freshCount, lengthened, lineRefused, lineCounted, lineEnded, reported, Countable};
@@ -38,7 +38,7 @@ impl Count {
                 write_back: 0,
                 update: 0,
             },
-            refusal: types::NO_REFUSAL,
+            refusal: protocol_types::NO_REFUSAL,
         }
     }
 
@@ -74,10 +74,10 @@ impl Count {
         ensures { λ r. ⌜ r ≡ reported self ⌝ }
     {
         let account = self.account;
-        if self.refusal == types::NO_REFUSAL {
+        if self.refusal == protocol_types::NO_REFUSAL {
             return Report {
                 account: account,
-                refusal: types::NO_REFUSAL,
+                refusal: protocol_types::NO_REFUSAL,
                 line: 0,
             };
         }
@@ -121,7 +121,7 @@ fn take_request(
     let account = count.account;
     let setup = trace_setup();
     let refusal = setup.request_refusal(account.requests, request);
-    if refusal != types::NO_REFUSAL {
+    if refusal != protocol_types::NO_REFUSAL {
         return count.refuse_line(refusal);
     }
     let done = engine::serve(setup, request, blocks, counters, marks, words, memory);
@@ -130,7 +130,7 @@ fn take_request(
         line: Line::new(),
         line_number: count.line_number + 1,
         account: enter(account, bill),
-        refusal: types::NO_REFUSAL,
+        refusal: protocol_types::NO_REFUSAL,
     }
 }
 
@@ -150,8 +150,8 @@ pub fn end_line(
 {
     let meaning = interpret(count.line_number, parsed);
     match meaning {
-        Meaning::Malformed => count.refuse_line(types::MALFORMED_LINE),
-        Meaning::Unknown => count.refuse_line(types::UNKNOWN_LABEL),
+        Meaning::Malformed => count.refuse_line(protocol_types::MALFORMED_LINE),
+        Meaning::Unknown => count.refuse_line(protocol_types::UNKNOWN_LABEL),
         Meaning::Asks(request) => take_request(
             count,
             request,

@@ -1,11 +1,11 @@
 -- Every row of the table of traces passes, by computing.
 use mathlib.Core.Path.{_≡_, refl}
 use mathlib.Core.Bool.{true}
-use Rattle.types.specs.Lists.{first, other}
-use Rattle.types.specs.Board.{fetchPrice, writeBackPrice, blockOf, offsetOf, lineOf, slots, slot, wordIndex}
+use Rattle.protocol_types.specs.Lists.{first, other}
+use Rattle.protocol_types.specs.Board.{fetchPrice, writeBackPrice, blockOf, offsetOf, lineOf, slots, slot, wordIndex}
 use Rattle.protocol.specs.Tables.{lineWords, memoryWords, fresh, holdsAt, holds, sharing, marked}
 use Rattle.protocol.specs.Rules.{writtenBack, emptied, filled, saved, saveCycles, evicted, owner, released, fetched, obtained, fetchCycles, writeBackCycles, payer, writtenAlone, broadcast, charged, written, updateCycles}
-use Rattle.types.specs.Conditions.{variableRefusal, requestRefusal}
+use Rattle.protocol_types.specs.Conditions.{variableRefusal, requestRefusal}
 use Rattle.protocol.specs.Requests.{served, bill}
 use Rattle.trace_din.specs.Lines.{isDigit, isBlank, isGap, hexValue, isHex, addressed, separated, parsed}
 use Rattle.trace_lines.specs.Trace.{traceSetup, processorAt, variableAt, interpretedLabel, afterRequest, ended}

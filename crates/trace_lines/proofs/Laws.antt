@@ -1,8 +1,8 @@
 -- The setup of traces is not refused, so every law of setups that fit holds of it.
 use mathlib.Core.Path.{_≡_, refl}
-use Rattle.types.specs.Refusals.{noRefusal}
-use Rattle.types.specs.Board.{setupRefusal, inRange, Fits}
-use Rattle.types.proofs.Board.{setup-fits}
+use Rattle.protocol_types.specs.Refusals.{noRefusal}
+use Rattle.protocol_types.specs.Board.{setupRefusal, inRange, Fits}
+use Rattle.protocol_types.proofs.Board.{setup-fits}
 use Rattle.trace_lines.specs.Trace.{traceSetup}
 
 pub trace-passes : setupRefusal traceSetup ≡ noRefusal

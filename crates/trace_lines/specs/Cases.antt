@@ -4,8 +4,8 @@ use mathlib.Core.Bool.{Bool, true, _&&_}
 use mathlib.Core.List.{List, [], _∷_, _++_}
 use lib.ListN.{replicate}
 use lib.Dec.{eqb}
-use Rattle.types.specs.Lists.{at}
-use Rattle.types.specs.declared.Account.{Account}
+use Rattle.protocol_types.specs.Lists.{at}
+use Rattle.protocol_types.specs.declared.Account.{Account}
 use Rattle.trace_lines.specs.Trace.{Ended, ended}
 use Rattle.trace_lines.specs.declared.Report.{Report}
 

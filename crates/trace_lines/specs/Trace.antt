@@ -3,17 +3,17 @@ use Prim.Native.Nat.{ℕ, _+_, _/_, _%_}
 use mathlib.Core.Bool.{cond}
 use mathlib.Core.List.{List, [], _∷_}
 use lib.Dec.{eqb}
-use Rattle.types.specs.Refusals.{noRefusal, wrongLength, malformedLine, unknownLabel}
+use Rattle.protocol_types.specs.Refusals.{noRefusal, wrongLength, malformedLine, unknownLabel}
 use Rattle.protocol.specs.Tables.{Tables, sized}
-use Rattle.types.specs.Conditions.{requestRefusal}
+use Rattle.protocol_types.specs.Conditions.{requestRefusal}
 use Rattle.protocol.specs.Requests.{served, bill}
 use Rattle.protocol.specs.Accounts.{freshAccount, entered}
 use Rattle.protocol.specs.Engines.{State}
 use Rattle.protocol.specs.Runs.{opening}
-use Rattle.types.specs.declared.Setup.{Setup}
-use Rattle.types.specs.declared.Variable.{Variable}
-use Rattle.types.specs.declared.Request.{Request}
-use Rattle.types.specs.declared.Operation.the-variants.{Read, Write}
+use Rattle.protocol_types.specs.declared.Setup.{Setup}
+use Rattle.protocol_types.specs.declared.Variable.{Variable}
+use Rattle.protocol_types.specs.declared.Request.{Request}
+use Rattle.protocol_types.specs.declared.Operation.the-variants.{Read, Write}
 use Rattle.trace_din.specs.Lines.{linesOf, parsed}
 use Rattle.trace_din.specs.declared.Parsed.{Parsed}
 use Rattle.trace_din.specs.declared.Parsed.the-variants as form

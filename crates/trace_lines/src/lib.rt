@@ -1,10 +1,10 @@
 // What a line of a trace asks for.
+use protocol_types::Account;
+use protocol_types::Operation;
+use protocol_types::Request;
+use protocol_types::Setup;
+use protocol_types::Variable;
 use trace_din::Parsed;
-use types::Account;
-use types::Operation;
-use types::Request;
-use types::Setup;
-use types::Variable;
 ghost use mathlib.Core.Path.{_≡_};
 ghost use Rattle.trace_lines.specs.Trace.{traceSetup, processorAt, variableAt, readAt, writeAt, interpretedLabel, interpreted};
 

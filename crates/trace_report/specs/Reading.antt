@@ -8,7 +8,7 @@ use lib.Signed.{ltZ, leZ}
 use lib.Dec.{eqb}
 use lib.ListN.{length, take}
 use Rattle.io.specs.Counts.{clamped}
-use Rattle.types.specs.Refusals.{noRefusal}
+use Rattle.protocol_types.specs.Refusals.{noRefusal}
 use Rattle.protocol.specs.Tables.{Tables, fresh}
 use Rattle.trace_lines.specs.Trace.{traceSetup, report}
 use Rattle.trace_count.specs.Counting.{CountStage, countStage, freshCount}

@@ -52,7 +52,7 @@ fn count_read(
     let next = trace::feed(count, &buffer[..n], blocks, counters, marks, words, memory);
     let refusal = next.refusal;
     Progress {
-        going: refusal == types::NO_REFUSAL,
+        going: refusal == protocol_types::NO_REFUSAL,
         failed: false,
         count: next,
     }

@@ -10,7 +10,7 @@ use lib.ListN.{length, take, getD, length-append, List·getD-append}
 use lib.Seq.{getD-at}
 use borrow.Author.Tests.{ltb-true, ltb-false, lt-ltb}
 use Rattle.io.specs.Digits.{digits, glyph, Fewest}
-use Rattle.types.proofs.Laws.{choice}
+use Rattle.protocol_types.proofs.Laws.{choice}
 use Rattle.trace_text.specs.Text.{places, numberWidth, decimal, denoted}
 
 -- ---- how many digits

@@ -7,7 +7,7 @@ use lib.Dec.{ltb}
 use lib.ListN.{length, take}
 use Rattle.io.specs.Digits.{digits}
 use Rattle.protocol.specs.Accounts.{cyclesOf}
-use Rattle.types.specs.declared.Account.{Account}
+use Rattle.protocol_types.specs.declared.Account.{Account}
 use Rattle.trace_din.specs.Lines.{newline}
 use Rattle.trace_lines.specs.declared.Report.{Report}
 

@@ -5,8 +5,8 @@ ghost use lib.ListN.{length, take};
 ghost use Rattle.io.specs.Counts.{Counts};
 ghost use Rattle.protocol.specs.Accounts.{cyclesOf};
 ghost use Rattle.trace_text.specs.Text.{numberWidth, decimal, field, line, accountLines, text, fieldWidth, lineWidth, accountWidth, textWidth, Appended};
+use protocol_types::Account;
 use trace_lines::Report;
-use types::Account;
 
 // The most bytes that a report is: 20 digits to a number.
 pub const TEXT_WIDTH: usize = 192;

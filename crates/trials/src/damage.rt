@@ -1,6 +1,7 @@
 // Damage to the real tables: one line changes, or the main memory of its block. Some of it leaves sound tables sound.
 use crate::layout::REAL;
 use crate::lent;
+use protocol_types::Setup;
 use trials_cells::cells::Cells;
 use trials_cells::cells::copy;
 use trials_cells::cells::get;
@@ -11,7 +12,6 @@ use trials_cells::cells::remainder;
 use trials_cells::cells::sum;
 use trials_cells::state::draw;
 use trials_cells::state::word;
-use types::Setup;
 
 const COUNTERS: u32 = REAL + lent::COUNTERS;
 

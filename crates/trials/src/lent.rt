@@ -20,6 +20,10 @@ use crate::layout::PAIRS;
 use crate::layout::REAL;
 use crate::layout::TABLE_CELLS;
 use crate::layout::WANTED;
+use protocol_types::NO_REFUSAL;
+use protocol_types::SETUP_OUT_OF_RANGE;
+use protocol_types::Setup;
+use protocol_types::WRONG_LENGTH;
 use trials_cells::cells::Cells;
 use trials_cells::cells::copy;
 use trials_cells::cells::differences;
@@ -31,10 +35,6 @@ use trials_cells::cells::quotient;
 use trials_cells::cells::remainder;
 use trials_cells::cells::sum;
 use trials_cells::cells::wipe;
-use types::NO_REFUSAL;
-use types::SETUP_OUT_OF_RANGE;
-use types::Setup;
-use types::WRONG_LENGTH;
 
 // The tables' numbers.
 pub const NUMBERS_TABLE: u32 = 0;

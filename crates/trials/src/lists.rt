@@ -1,5 +1,6 @@
 // Lists of requests, four numbers each.
 use crate::layout::REQUESTS;
+use protocol_types::Setup;
 use trials_cells::cells::Cells;
 use trials_cells::cells::get;
 use trials_cells::cells::less;
@@ -9,7 +10,6 @@ use trials_cells::cells::remainder;
 use trials_cells::cells::sum;
 use trials_cells::state::draw;
 use trials_cells::state::word;
-use types::Setup;
 
 // A list has fewer requests than this, of so many numbers each.
 pub const LISTS: u32 = 61;

@@ -16,6 +16,8 @@ use crate::run_trials;
 use crate::run_trials::Judged;
 use crate::run_trials::Plan;
 use crate::setups;
+use protocol_types::NO_REFUSAL;
+use protocol_types::Setup;
 use trials_cells::cells::Cells;
 use trials_cells::cells::less;
 use trials_cells::cells::product;
@@ -25,8 +27,6 @@ use trials_cells::cells::sum;
 use trials_cells::state;
 use trials_cells::state::draw;
 use trials_cells::state::word;
-use types::NO_REFUSAL;
-use types::Setup;
 
 // A schedule being built: what the model makes of it, and its entries.
 struct Draft {

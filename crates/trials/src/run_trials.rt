@@ -10,6 +10,10 @@ use crate::lists;
 use crate::served;
 use crate::served::Outcome;
 use crate::setups;
+use protocol_types::Account;
+use protocol_types::IMPOSSIBLE_ACCOUNT;
+use protocol_types::Setup;
+use protocol_types::UNSOUND_TABLES;
 use trials_cells::cells::Cells;
 use trials_cells::cells::copy;
 use trials_cells::cells::differences;
@@ -21,10 +25,6 @@ use trials_cells::cells::sum;
 use trials_cells::state;
 use trials_cells::state::draw;
 use trials_cells::state::word;
-use types::Account;
-use types::IMPOSSIBLE_ACCOUNT;
-use types::Setup;
-use types::UNSOUND_TABLES;
 
 const REAL_MEMORY: u32 = REAL + lent::MEMORY;
 

@@ -6,6 +6,8 @@ use crate::layout::MOST_PROCESSORS;
 use crate::layout::MOST_REQUESTS;
 use crate::layout::MOST_WORDS;
 use crate::lent;
+use protocol_types::Account;
+use protocol_types::Setup;
 use trials_cells::cells::Cells;
 use trials_cells::cells::less;
 use trials_cells::cells::product;
@@ -17,8 +19,6 @@ use trials_cells::state;
 use trials_cells::state::between;
 use trials_cells::state::draw;
 use trials_cells::state::word;
-use types::Account;
-use types::Setup;
 
 fn setup_of(processors: u32, lines: u32, words: u32, blocks: u32) -> Setup {
     Setup {

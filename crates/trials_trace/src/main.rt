@@ -7,9 +7,9 @@ mod text;
 
 use crate::entry::Counted;
 use crate::reading::Reading;
+use protocol_types::Account;
 use trials_cells::cells::Cells;
 use trials_cells::state;
-use types::Account;
 
 // The generator as the trials of runs and prices left it, when all were one program.
 const FIRST_SEED: u32 = 1381274556;

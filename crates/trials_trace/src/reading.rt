@@ -15,18 +15,18 @@ use crate::text::NEWLINE;
 use crate::text::TAB;
 use crate::text::UPPER;
 use crate::text::VARIABLE_ADDRESSES;
+use protocol_types::ACCOUNT_FULL;
+use protocol_types::Account;
+use protocol_types::MALFORMED_LINE;
+use protocol_types::NO_REFUSAL;
+use protocol_types::NO_SUCH_PROCESSOR;
+use protocol_types::NO_SUCH_VARIABLE;
+use protocol_types::UNKNOWN_LABEL;
+use protocol_types::WRONG_LENGTH;
 use trials_cells::cells::Cells;
 use trials_cells::cells::get;
 use trials_cells::cells::less;
 use trials_cells::cells::sum;
-use types::ACCOUNT_FULL;
-use types::Account;
-use types::MALFORMED_LINE;
-use types::NO_REFUSAL;
-use types::NO_SUCH_PROCESSOR;
-use types::NO_SUCH_VARIABLE;
-use types::UNKNOWN_LABEL;
-use types::WRONG_LENGTH;
 
 // The labels of reads, writes and fetches of instructions.
 const WRITE: u32 = 1;

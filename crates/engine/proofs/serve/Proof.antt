@@ -3,11 +3,11 @@ use borrow.Author.Needs.{needs}
 use Prim.Native.Nat.{_<_}
 use mathlib.Core.Path.{_≡_}
 use mathlib.Core.Logic.{⊎-elim}
-use Rattle.types.specs.Board.{variables}
-use Rattle.types.specs.Conditions.{Named}
+use Rattle.protocol_types.specs.Board.{variables}
+use Rattle.protocol_types.specs.Conditions.{Named}
 use Rattle.protocol.specs.Requests.{value, bill, served}
-use Rattle.types.specs.declared.Setup.{Setup}
-use Rattle.types.specs.declared.Variable.{Variable}
+use Rattle.protocol_types.specs.declared.Setup.{Setup}
+use Rattle.protocol_types.specs.declared.Variable.{Variable}
 use Rattle.engine.specs.Usable.{operationBy, operationOf}
 use Rattle.engine.specs.declared.Effect.{Effect}
 use Rattle.engine.specs.declared.Effect.the-variants.{Supply, Store}

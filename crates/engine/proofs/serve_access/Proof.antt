@@ -2,9 +2,9 @@
 use borrow.Author.Needs.{needs}
 use mathlib.Core.Path.{_∙_}
 use denote.Ref.{now}
-use Rattle.types.specs.Board.{slots}
+use Rattle.protocol_types.specs.Board.{slots}
 use Rattle.protocol.specs.Tables.{tables}
-use Rattle.types.proofs.Board.{block-lt, offset-lt, wordIndex-lt}
+use Rattle.protocol_types.proofs.Board.{block-lt, offset-lt, wordIndex-lt}
 use Rattle.protocol.proofs.Lengths.{sized-obtained}
 use Rattle.engine.specs.Usable.{obtainBill}
 use Rattle.engine.proofs.serve_access.Statement.{statement}

@@ -1,9 +1,9 @@
 -- The row of a slot lies within the words (row-end).
 use borrow.Author.Needs.{needs}
 use native.Mathlib.Omega.{arith}
-use Rattle.types.specs.Board.{slots}
+use Rattle.protocol_types.specs.Board.{slots}
 use Rattle.protocol.specs.Rules.{emptied}
-use Rattle.types.proofs.Rows.{row-end}
+use Rattle.protocol_types.proofs.Rows.{row-end}
 use Rattle.engine_evictions.proofs.empty_line.Statement.{statement}
 use Rattle.engine_evictions.proofs.empty_line.Tie as tie
 

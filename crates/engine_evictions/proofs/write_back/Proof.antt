@@ -2,11 +2,11 @@
 use borrow.Author.Needs.{needs}
 use native.Mathlib.Omega.{arith}
 use denote.Ref.{now}
-use Rattle.types.specs.Lists.{at}
-use Rattle.types.specs.Board.{slots}
+use Rattle.protocol_types.specs.Lists.{at}
+use Rattle.protocol_types.specs.Board.{slots}
 use Rattle.protocol.specs.Tables.{lineWords}
 use Rattle.protocol.specs.Rules.{writtenBack}
-use Rattle.types.proofs.Rows.{row-end}
+use Rattle.protocol_types.proofs.Rows.{row-end}
 use Rattle.engine_evictions.proofs.write_back.Statement.{statement}
 use Rattle.engine_evictions.proofs.write_back.Tie as tie
 

@@ -3,7 +3,7 @@ use borrow.Author.Needs.{needs}
 use native.Mathlib.Omega.{arith}
 use borrow.Author.Tests.{lt-ltb}
 use denote.Ref.{now}
-use Rattle.types.specs.Lists.{at}
+use Rattle.protocol_types.specs.Lists.{at}
 use Rattle.protocol.specs.Tables.{holdsAt}
 use Rattle.engine_holders.proofs.line_holds.Statement.{statement}
 use Rattle.engine_holders.proofs.line_holds.Tie as tie

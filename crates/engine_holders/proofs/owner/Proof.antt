@@ -5,11 +5,11 @@ use mathlib.Core.Path.{_≡_, _∙_}
 use mathlib.Core.List.{List}
 use native.Mathlib.Omega.{arith}
 use denote.Ref.{now}
-use Rattle.types.specs.Lists.{firstFrom}
+use Rattle.protocol_types.specs.Lists.{firstFrom}
 use Rattle.protocol.specs.Tables.{tables}
 use Rattle.protocol.specs.Rules.{owner}
 use Rattle.engine_holders.specs.Searches.{owns}
-use Rattle.types.proofs.Search.{search-started, search-found, search-passed, search-ended}
+use Rattle.protocol_types.proofs.Search.{search-started, search-found, search-passed, search-ended}
 use Rattle.engine_holders.proofs.Search.{owner-is}
 use Rattle.engine_holders.proofs.owner.Statement.{statement}
 use Rattle.engine_holders.proofs.owner.Tie as tie

@@ -2,7 +2,7 @@
 use mathlib.Core.Bool.{and-false, and-true}
 use borrow.Author.Needs.{needs}
 use borrow.Author.Tests.{eq-eqb, ne-eqb}
-use Rattle.types.specs.Lists.{at}
+use Rattle.protocol_types.specs.Lists.{at}
 use Rattle.protocol.specs.Tables.{holds, marked}
 use Rattle.engine_holders.specs.Searches.{owns}
 use Rattle.engine_holders.proofs.owns.Statement.{statement}

@@ -3,9 +3,9 @@ use borrow.Author.Needs.{needs}
 use native.Mathlib.Omega.{arith}
 use borrow.Author.Tests.{not-true, not-false}
 use denote.Ref.{now}
-use Rattle.types.specs.Board.{slots}
+use Rattle.protocol_types.specs.Board.{slots}
 use Rattle.protocol.specs.Tables.{holds}
-use Rattle.types.proofs.Board.{wordIndex-lt}
+use Rattle.protocol_types.proofs.Board.{wordIndex-lt}
 use Rattle.engine_holders.proofs.update_copy.Statement.{statement}
 use Rattle.engine_holders.proofs.update_copy.Tie as tie
 

@@ -2,7 +2,7 @@
 use borrow.Author.Needs.{needs}
 use borrow.Author.Tests.{eq-eqb, ne-eqb}
 use denote.Ref.{now}
-use Rattle.types.specs.Lists.{at}
+use Rattle.protocol_types.specs.Lists.{at}
 use Rattle.protocol.specs.Rules.{charged}
 use Rattle.engine_lines.proofs.charge.Statement.{statement}
 use Rattle.engine_lines.proofs.charge.Tie as tie

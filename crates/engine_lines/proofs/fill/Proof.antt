@@ -1,10 +1,10 @@
 -- The rows of the slot and of the block lie within their tables (row-end).
 use borrow.Author.Needs.{needs}
 use native.Mathlib.Omega.{arith}
-use Rattle.types.specs.Board.{slots}
+use Rattle.protocol_types.specs.Board.{slots}
 use Rattle.protocol.specs.Tables.{memoryWords}
 use Rattle.protocol.specs.Rules.{filled}
-use Rattle.types.proofs.Rows.{row-end}
+use Rattle.protocol_types.proofs.Rows.{row-end}
 use Rattle.engine_lines.proofs.fill.Statement.{statement}
 use Rattle.engine_lines.proofs.fill.Tie as tie
 

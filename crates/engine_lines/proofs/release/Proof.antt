@@ -4,7 +4,7 @@ use borrow.Author.Tests.{lt-ltb, le-ltb}
 use denote.Ref.{now}
 use Rattle.protocol.specs.Tables.{tables}
 use Rattle.protocol.specs.Rules.{owner, released}
-use Rattle.types.proofs.Board.{block-number}
+use Rattle.protocol_types.proofs.Board.{block-number}
 use Rattle.protocol.proofs.Holding.{holder-slot, owner-found}
 use Rattle.engine_lines.proofs.release.Statement.{statement}
 use Rattle.engine_lines.proofs.release.Tie as tie

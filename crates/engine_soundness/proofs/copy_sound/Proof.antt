@@ -3,10 +3,10 @@ use mathlib.Core.Path.{sym, _∙_}
 use native.Mathlib.Omega.{arith}
 use borrow.Author.Tests.{eq-eqb, ne-eqb}
 use denote.Ref.{now}
-use Rattle.types.specs.Lists.{at}
-use Rattle.types.specs.Board.{slots}
+use Rattle.protocol_types.specs.Lists.{at}
+use Rattle.protocol_types.specs.Board.{slots}
 use Rattle.protocol.specs.Soundness.{copyLine}
-use Rattle.types.proofs.Rows.{row-end}
+use Rattle.protocol_types.proofs.Rows.{row-end}
 use borrow.Author.Needs.{needs}
 use Rattle.engine_soundness.proofs.copy_sound.Statement.{statement}
 use Rattle.engine_soundness.proofs.copy_sound.Tie as tie

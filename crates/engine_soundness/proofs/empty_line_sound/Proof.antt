@@ -1,9 +1,9 @@
 -- Each test as it is made; the row of the slot lies within the words (row-end).
 use native.Mathlib.Omega.{arith}
 use borrow.Author.Tests.{eq-eqb, ne-eqb}
-use Rattle.types.specs.Board.{slots}
+use Rattle.protocol_types.specs.Board.{slots}
 use Rattle.protocol.specs.Soundness.{emptyLine}
-use Rattle.types.proofs.Rows.{row-end}
+use Rattle.protocol_types.proofs.Rows.{row-end}
 use borrow.Author.Needs.{needs}
 use Rattle.engine_soundness.proofs.empty_line_sound.Statement.{statement}
 use Rattle.engine_soundness.proofs.empty_line_sound.Tie as tie

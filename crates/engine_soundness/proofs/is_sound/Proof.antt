@@ -7,10 +7,10 @@ use Prim.Native.Nat.{_≤_, _-_}
 use native.Mathlib.Omega.{arith}
 use borrow.Author.Tests.{eq-eqb, ne-eqb}
 use denote.Ref.{now}
-use Rattle.types.specs.Lists.{all}
+use Rattle.protocol_types.specs.Lists.{all}
 use Rattle.protocol.specs.Tables.{tables}
 use Rattle.parts.proofs.Laws.{all-more, all-false}
-use Rattle.types.proofs.Laws.{failed, passed}
+use Rattle.protocol_types.proofs.Laws.{failed, passed}
 use Rattle.engine_soundness.proofs.Lines.{lineTest, cacheTest, sound-is}
 use borrow.Author.Needs.{needs}
 use Rattle.engine_soundness.proofs.is_sound.Statement.{statement}

@@ -1,7 +1,7 @@
 -- The number is below the number of slots (lineSlot-lt), which are few (few-slots), so it fits.
 use mathlib.Core.Path.{refl}
 use native.Mathlib.Omega.{arith}
-use Rattle.types.proofs.Board.{few-slots, lineSlot-lt}
+use Rattle.protocol_types.proofs.Board.{few-slots, lineSlot-lt}
 use Rattle.engine_soundness.proofs.line_slot.Statement.{statement}
 use Rattle.engine_soundness.proofs.line_slot.Tie as tie
 

@@ -5,10 +5,10 @@ use native.Mathlib.Nat.{add-sub-cancel-left, add-zero}
 use native.Mathlib.Omega.{arith}
 use denote.Ref.{now}
 use lib.ListN.{length}
-use Rattle.types.specs.Lists.{part}
-use Rattle.types.specs.Board.{slots, wordIndex}
-use Rattle.types.proofs.Rows.{row-end}
-use Rattle.types.proofs.Laws.{failed, passed}
+use Rattle.protocol_types.specs.Lists.{part}
+use Rattle.protocol_types.specs.Board.{slots, wordIndex}
+use Rattle.protocol_types.proofs.Rows.{row-end}
+use Rattle.protocol_types.proofs.Laws.{failed, passed}
 use Rattle.engine_tables.proofs.Tests.{looked-is, shown}
 use borrow.Author.Needs.{needs}
 use Rattle.engine_tables.proofs.look.Statement.{statement}

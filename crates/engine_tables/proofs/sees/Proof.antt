@@ -2,7 +2,7 @@
 use mathlib.Core.Path.{sym, _∙_}
 use mathlib.Core.List.{[]}
 use borrow.Author.Tests.{eq-eqb, ne-eqb, lt-ltb, le-ltb}
-use Rattle.types.proofs.Board.{setup-fits}
+use Rattle.protocol_types.proofs.Board.{setup-fits}
 use Rattle.engine_tables.specs.Entries.{seen}
 use borrow.Author.Needs.{needs}
 use Rattle.engine_tables.proofs.sees.Statement.{statement}

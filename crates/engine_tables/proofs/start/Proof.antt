@@ -4,9 +4,9 @@ use borrow.Author.Needs.{needs}
 use mathlib.Core.Path.{sym, _∙_}
 use denote.Ref.{now}
 use Rattle.protocol.specs.Tables.{tables, fresh}
-use Rattle.types.proofs.Board.{setup-fits}
+use Rattle.protocol_types.proofs.Board.{setup-fits}
 use Rattle.protocol.proofs.Checked.{passed-sized}
-use Rattle.types.proofs.Laws.{failed, passed}
+use Rattle.protocol_types.proofs.Laws.{failed, passed}
 use Rattle.engine_tables.proofs.Tests.{start-refused, start-unsized, start-filled, sized-is}
 use Rattle.engine_tables.proofs.start.Statement.{statement}
 use Rattle.engine_tables.proofs.start.Tie as tie

@@ -3,7 +3,7 @@ use borrow.Author.Needs.{needs}
 use native.Mathlib.Omega.{arith}
 use denote.Ref.{now}
 use Rattle.protocol.specs.Rules.{broadcast}
-use Rattle.types.proofs.Board.{wordIndex-lt}
+use Rattle.protocol_types.proofs.Board.{wordIndex-lt}
 use Rattle.engine_writes.proofs.broadcast.Statement.{statement}
 use Rattle.engine_writes.proofs.broadcast.Tie as tie
 

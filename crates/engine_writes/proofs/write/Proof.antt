@@ -7,8 +7,8 @@ use borrow.Author.Tests.{lt-ltb, le-ltb}
 use denote.Ref.{now}
 use Rattle.protocol.specs.Tables.{Tables, tables, sharing}
 use Rattle.protocol.specs.Rules.{payer, written, updateCycles}
-use Rattle.types.specs.declared.Setup.{Setup}
-use Rattle.types.specs.declared.Block.{Block}
+use Rattle.protocol_types.specs.declared.Setup.{Setup}
+use Rattle.protocol_types.specs.declared.Block.{Block}
 use Rattle.protocol.proofs.Holding.{holder-slot, payer-found, payer-sharing}
 use Rattle.engine_writes.proofs.write.Statement.{statement}
 use Rattle.engine_writes.proofs.write.Tie as tie

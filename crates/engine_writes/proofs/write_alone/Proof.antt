@@ -1,9 +1,9 @@
 -- The word lies within the words of the slot.
 use borrow.Author.Needs.{needs}
 use native.Mathlib.Omega.{arith}
-use Rattle.types.specs.Board.{slots}
+use Rattle.protocol_types.specs.Board.{slots}
 use Rattle.protocol.specs.Rules.{writtenAlone}
-use Rattle.types.proofs.Board.{wordIndex-lt}
+use Rattle.protocol_types.proofs.Board.{wordIndex-lt}
 use Rattle.engine_writes.proofs.write_alone.Statement.{statement}
 use Rattle.engine_writes.proofs.write_alone.Tie as tie
 

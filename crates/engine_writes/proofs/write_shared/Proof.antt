@@ -3,10 +3,10 @@ use borrow.Author.Needs.{needs}
 use Prim.Native.Nat.{ℕ, _≤_}
 use mathlib.Core.Path.{ap, _∙_}
 use denote.Ref.{now}
-use Rattle.types.specs.Board.{fetchPrice}
+use Rattle.protocol_types.specs.Board.{fetchPrice}
 use Rattle.protocol.specs.Tables.{Tables}
 use Rattle.protocol.specs.Rules.{broadcast, charged}
-use Rattle.types.proofs.Laws.{at-set}
+use Rattle.protocol_types.proofs.Laws.{at-set}
 use Rattle.engine_writes.proofs.write_shared.Statement.{statement}
 use Rattle.engine_writes.proofs.write_shared.Tie as tie
 

@@ -4,7 +4,7 @@ use denote.Ref.{now}
 use Rattle.protocol.specs.Tables.{tables}
 use Rattle.protocol.specs.Engines.{run as ran}
 use Rattle.protocol.specs.Runs.{engine}
-use Rattle.types.specs.declared.Setup.{Setup}
+use Rattle.protocol_types.specs.declared.Setup.{Setup}
 use Rattle.host_decoding.specs.Records.{requestsOf}
 use Rattle.host_numbers.specs.Numbers.{accountOf}
 use borrow.Author.Needs.{needs}

@@ -7,7 +7,7 @@ use lib.ListN.{length}
 use Rattle.protocol.specs.Tables.{tables}
 use Rattle.protocol.specs.Engines.{run as ran}
 use Rattle.protocol.specs.Runs.{engine}
-use Rattle.types.specs.declared.Account.{Account}
+use Rattle.protocol_types.specs.declared.Account.{Account}
 use Rattle.run_progress.specs.Progress.{runStage, grown, outcome}
 use Rattle.run_steps.proofs.Loop.{Inv, μ, inv-count, inv-room, inv-end}
 use Rattle.host_decoding.specs.Records.{requestsOf}

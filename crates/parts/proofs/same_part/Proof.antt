@@ -9,7 +9,7 @@ use borrow.Author.Needs.{needs}
 use borrow.Author.Tests.{eq-eqb, ne-eqb}
 use denote.Ref.{now}
 use lib.Dec.{eqb}
-use Rattle.types.specs.Lists.{at, all}
+use Rattle.protocol_types.specs.Lists.{at, all}
 use Rattle.parts.proofs.Laws.{all-more, all-false}
 use Rattle.parts.proofs.same_part.Statement.{statement}
 use Rattle.parts.proofs.same_part.Tie as tie

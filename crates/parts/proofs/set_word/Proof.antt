@@ -2,7 +2,7 @@
 use borrow.Author.Needs.{needs}
 use mathlib.Core.Path.{refl}
 use native.Mathlib.Omega.{arith}
-use Rattle.types.specs.Board.{wordIndex}
+use Rattle.protocol_types.specs.Board.{wordIndex}
 use Rattle.parts.proofs.set_word.Statement.{statement}
 use Rattle.parts.proofs.set_word.Tie as tie
 

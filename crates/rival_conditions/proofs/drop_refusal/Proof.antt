@@ -5,9 +5,9 @@ use mathlib.Core.Bool.{cond}
 use borrow.Author.Tests.{not-true, not-false, eq-eqb, ne-eqb}
 use denote.Ref.{now}
 use lib.Dec.{eqb}
-use Rattle.types.specs.Lists.{at}
-use Rattle.types.specs.Refusals.{noRefusal, blockNotHeld, dropOfMarked}
-use Rattle.types.specs.Board.{slot}
+use Rattle.protocol_types.specs.Lists.{at}
+use Rattle.protocol_types.specs.Refusals.{noRefusal, blockNotHeld, dropOfMarked}
+use Rattle.protocol_types.specs.Board.{slot}
 use Rattle.protocol.specs.Rival.{keeps}
 use Rattle.rival_copies.specs.Copies.{rivalLent}
 use Rattle.rival_copies.proofs.Laws.{names-processor}

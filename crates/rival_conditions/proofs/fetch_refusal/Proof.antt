@@ -5,9 +5,9 @@ use mathlib.Core.Bool.{cond}
 use borrow.Author.Tests.{eq-eqb, ne-eqb}
 use denote.Ref.{now}
 use lib.Dec.{eqb}
-use Rattle.types.specs.Lists.{at}
-use Rattle.types.specs.Refusals.{noRefusal, lineInUse}
-use Rattle.types.specs.Board.{slot}
+use Rattle.protocol_types.specs.Lists.{at}
+use Rattle.protocol_types.specs.Refusals.{noRefusal, lineInUse}
+use Rattle.protocol_types.specs.Board.{slot}
 use Rattle.rival_copies.proofs.Laws.{names-processor}
 use Rattle.rival_conditions.proofs.Laws.{move-refused, move-passed}
 use Rattle.rival_conditions.proofs.fetch_refusal.Statement.{statement}

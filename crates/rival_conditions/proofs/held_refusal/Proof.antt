@@ -1,6 +1,6 @@
 -- Whether the block is held decides.
 use borrow.Author.Needs.{needs}
-use Rattle.types.proofs.Laws.{failed, passed}
+use Rattle.protocol_types.proofs.Laws.{failed, passed}
 use Rattle.rival_conditions.proofs.held_refusal.Statement.{statement}
 use Rattle.rival_conditions.proofs.held_refusal.Tie as tie
 

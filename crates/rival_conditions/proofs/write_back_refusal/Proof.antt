@@ -4,7 +4,7 @@ use mathlib.Core.Path.{sym, _∙_}
 use mathlib.Core.Bool.{cond}
 use borrow.Author.Tests.{not-true, not-false}
 use denote.Ref.{now}
-use Rattle.types.specs.Refusals.{noRefusal, blockNotHeld}
+use Rattle.protocol_types.specs.Refusals.{noRefusal, blockNotHeld}
 use Rattle.protocol.specs.Rival.{rival, keeps}
 use Rattle.rival_copies.proofs.Laws.{names-processor}
 use Rattle.rival_conditions.proofs.Laws.{move-refused, move-passed}

@@ -1,6 +1,6 @@
 -- By broadcast 1; else 1 where another has a copy.
 use borrow.Author.Needs.{needs}
-use Rattle.types.proofs.Laws.{failed, passed}
+use Rattle.protocol_types.proofs.Laws.{failed, passed}
 use Rattle.rival_conditions.proofs.write_cycles.Statement.{statement}
 use Rattle.rival_conditions.proofs.write_cycles.Tie as tie
 

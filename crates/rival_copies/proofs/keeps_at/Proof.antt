@@ -2,7 +2,7 @@
 use borrow.Author.Needs.{needs}
 use borrow.Author.Tests.{eq-eqb, ne-eqb}
 use denote.Ref.{now}
-use Rattle.types.specs.Lists.{at}
+use Rattle.protocol_types.specs.Lists.{at}
 use Rattle.protocol.specs.Rival.{keepsAt}
 use Rattle.rival_copies.proofs.keeps_at.Statement.{statement}
 use Rattle.rival_copies.proofs.keeps_at.Tie as tie

@@ -7,9 +7,9 @@ use mathlib.Core.List.{List}
 use native.Mathlib.Omega.{arith}
 use denote.Ref.{now}
 use lib.Dec.{ltb}
-use Rattle.types.specs.Lists.{firstFrom, first}
+use Rattle.protocol_types.specs.Lists.{firstFrom, first}
 use Rattle.protocol.specs.Rival.{rival}
-use Rattle.types.proofs.Search.{search-started, search-found, search-passed, search-ended}
+use Rattle.protocol_types.proofs.Search.{search-started, search-found, search-passed, search-ended}
 use Rattle.rival_copies.specs.Copies.{anotherKeeps}
 use Rattle.rival_copies.proofs.Laws.{shared-is}
 use Rattle.rival_copies.proofs.shared.Statement.{statement}

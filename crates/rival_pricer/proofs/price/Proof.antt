@@ -48,23 +48,23 @@ use denote.Triple.Call.{calls-at, calls-at-last}
 use denote.Triple.Table.{entered, cited}
 use denote.Triple.Walked.{says, Stays, stay-none, stay-slice, stay-none-slice, walkOf, goes-none, goes-slice, goes-none-slice, Walks, ends-at, walked, walk-meets}
 use denote.Exit.{yes}
-use Rattle.types.specs.declared.Setup.{Setup}
-use Rattle.types.proofs.Setup as Setup-t
-use Rattle.types.proofs.Setup.Laws as Setup-l
-use Rattle.types.specs.declared.Entry.{Entry}
-use Rattle.types.proofs.Entry as Entry-t
-use Rattle.types.proofs.Entry.Laws as Entry-l
-use Rattle.types.specs.declared.Request.{Request}
-use Rattle.types.proofs.Request as Request-t
-use Rattle.types.proofs.Request.Laws as Request-l
+use Rattle.protocol_types.specs.declared.Setup.{Setup}
+use Rattle.protocol_types.proofs.Setup as Setup-t
+use Rattle.protocol_types.proofs.Setup.Laws as Setup-l
+use Rattle.protocol_types.specs.declared.Entry.{Entry}
+use Rattle.protocol_types.proofs.Entry as Entry-t
+use Rattle.protocol_types.proofs.Entry.Laws as Entry-l
+use Rattle.protocol_types.specs.declared.Request.{Request}
+use Rattle.protocol_types.proofs.Request as Request-t
+use Rattle.protocol_types.proofs.Request.Laws as Request-l
 use Rattle.rival_pricing.proofs.Pricing as Pricing-t
 use Rattle.rival_pricing.proofs.Pricing.Laws as Pricing-l
-use Rattle.types.proofs.PriceAnswer as PriceAnswer-t
-use Rattle.types.proofs.PriceAnswer.Laws as PriceAnswer-l
+use Rattle.protocol_types.proofs.PriceAnswer as PriceAnswer-t
+use Rattle.protocol_types.proofs.PriceAnswer.Laws as PriceAnswer-l
 use Rattle.protocol.specs.Rival.{rival}
 use Rattle.protocol.specs.Pricer.{price as priced, priceTables}
 use Rattle.rival_pricing.specs.Stages.{PriceStage, priceBegun, took, completed}
-use Rattle.types.proofs.Conditions.{no-request}
+use Rattle.protocol_types.proofs.Conditions.{no-request}
 use Rattle.rival_pricer.proofs.Loop.{no-entry, Inv, μ, inv-start, inv-took, falls-took, inv-completed, falls-completed, at-entry, at-request, due, inv-end}
 use Rattle.walks.proofs.Frame.{dieAll, blocks as blocks-of, slots, alloc-all, leave-all, rest-of, then-of, else-of}
 use Rattle.walks.proofs.Opening.{at-list, slice-at, Cells, Opened, slice-opens, slice-closes}

@@ -1,7 +1,7 @@
 -- As many zeros as there are slots.
 use borrow.Author.Needs.{needs}
 use mathlib.Core.Path.{ap, _∙_}
-use Rattle.types.specs.Lists.{zeros}
+use Rattle.protocol_types.specs.Lists.{zeros}
 use Rattle.protocol.specs.Rival.{noCopies}
 use Rattle.rival_pricing.proofs.clear_all.Statement.{statement}
 use Rattle.rival_pricing.proofs.clear_all.Tie as tie

@@ -2,9 +2,9 @@
 use borrow.Author.Needs.{needs}
 use mathlib.Core.Path.{sym, _∙_}
 use borrow.Author.Tests.{not-true, not-false, eq-eqb, ne-eqb}
-use Rattle.types.specs.Refusals.{noRefusal}
+use Rattle.protocol_types.specs.Refusals.{noRefusal}
 use Rattle.protocol.specs.Pricer.{priceRefusal}
-use Rattle.types.proofs.Board.{setup-fits}
+use Rattle.protocol_types.proofs.Board.{setup-fits}
 use Rattle.rival_pricing.proofs.price_refusal.Statement.{statement}
 use Rattle.rival_pricing.proofs.price_refusal.Tie as tie
 

@@ -49,24 +49,24 @@ use denote.Triple.Call.{calls-at, calls-at-last}
 use denote.Triple.Table.{entered, cited}
 use denote.Triple.Walked.{says, Stays, stay-none, stay-slice, gave-ref, stay-none-slice, walkOf, goes-none, goes-slice, goes-gave-ref, goes-none-slice, Walks, ends-at, walked, walk-meets}
 use denote.Exit.{yes}
-use Rattle.types.specs.declared.Setup.{Setup}
-use Rattle.types.proofs.Setup as Setup-t
-use Rattle.types.proofs.Setup.Laws as Setup-l
-use Rattle.types.specs.declared.Account.{Account}
-use Rattle.types.proofs.Account as Account-t
-use Rattle.types.proofs.Account.Laws as Account-l
-use Rattle.types.specs.declared.Request.{Request}
-use Rattle.types.proofs.Request as Request-t
-use Rattle.types.proofs.Request.Laws as Request-l
+use Rattle.protocol_types.specs.declared.Setup.{Setup}
+use Rattle.protocol_types.proofs.Setup as Setup-t
+use Rattle.protocol_types.proofs.Setup.Laws as Setup-l
+use Rattle.protocol_types.specs.declared.Account.{Account}
+use Rattle.protocol_types.proofs.Account as Account-t
+use Rattle.protocol_types.proofs.Account.Laws as Account-l
+use Rattle.protocol_types.specs.declared.Request.{Request}
+use Rattle.protocol_types.proofs.Request as Request-t
+use Rattle.protocol_types.proofs.Request.Laws as Request-l
 use Rattle.run_progress.proofs.Progress as Progress-t
 use Rattle.run_progress.proofs.Progress.Laws as Progress-l
-use Rattle.types.proofs.RunAnswer as RunAnswer-t
-use Rattle.types.proofs.RunAnswer.Laws as RunAnswer-l
+use Rattle.protocol_types.proofs.RunAnswer as RunAnswer-t
+use Rattle.protocol_types.proofs.RunAnswer.Laws as RunAnswer-l
 use Rattle.protocol.specs.Tables.{Tables as Tables₀, tables as lent}
 use Rattle.protocol.specs.Engines.{run as ran}
 use Rattle.protocol.specs.Runs.{runRefusal, engine}
 use Rattle.run_progress.specs.Progress.{RunStage, runStage, begun, turned, grown, growthOf, outcome}
-use Rattle.types.proofs.Conditions.{no-request}
+use Rattle.protocol_types.proofs.Conditions.{no-request}
 use Rattle.run_steps.proofs.Loop.{Inv, μ, inv-start, inv-turn, inv-falls, inv-within, inv-room, inv-count, inv-end}
 use Rattle.walks.proofs.Frame.{dieAll, blocks as blocks-of, slots, alloc-all, leave-all}
 use Rattle.walks.proofs.Opening.{at-list, at-value, slice-at, Cells, Opened, RefOpened, slice-opens, slice-closes, ref-opens, ref-closes}

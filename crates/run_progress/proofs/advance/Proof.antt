@@ -1,8 +1,8 @@
 -- Field by field; the bills are added.
 use mathlib.Core.Path.{ap}
 use lib.Dec.{ltb}
-use Rattle.types.specs.Refusals.{noRefusal}
-use Rattle.types.specs.declared.Bill.{Bill}
+use Rattle.protocol_types.specs.Refusals.{noRefusal}
+use Rattle.protocol_types.specs.declared.Bill.{Bill}
 use Rattle.protocol.specs.Engines.{answered}
 use borrow.Author.Needs.{needs}
 use Rattle.run_progress.proofs.advance.Statement.{statement}

@@ -36,9 +36,9 @@ use denote.Triple.Call.{calls-at}
 use denote.Triple.Table.{entered, cited}
 use denote.Triple.Walked.{says, needs, Stays, stay-none, stay-ref, walkOf, goes-none, goes-ref, Walks, ends-at, walked, walk-meets}
 use denote.Exit.{yes}
-use Rattle.types.specs.declared.Account.{Account}
-use Rattle.types.proofs.Account as Account-t
-use Rattle.types.proofs.Account.Laws as Account-l
+use Rattle.protocol_types.specs.declared.Account.{Account}
+use Rattle.protocol_types.proofs.Account as Account-t
+use Rattle.protocol_types.proofs.Account.Laws as Account-l
 use Rattle.run_progress.specs.Progress.{grown, GrowthFits}
 use Rattle.run_progress.proofs.grow as grow
 use Rattle.run_progress.proofs.grow.Symbol as grow-def

@@ -5,10 +5,10 @@ use borrow.Author.Tests.{eq-eqb, ne-eqb}
 use denote.Ref.{now}
 use Rattle.protocol.specs.Tables.{tables}
 use Rattle.protocol.specs.Runs.{runRefusal}
-use Rattle.types.proofs.Board.{setup-fits}
+use Rattle.protocol_types.proofs.Board.{setup-fits}
 use Rattle.protocol.proofs.Checked.{passed-sized}
-use Rattle.types.proofs.Laws.{failed, passed}
-use Rattle.types.proofs.Refusals.{code-refuses}
+use Rattle.protocol_types.proofs.Laws.{failed, passed}
+use Rattle.protocol_types.proofs.Refusals.{code-refuses}
 use Rattle.engine_tables.proofs.Tests.{sized-is}
 use Rattle.run_steps.proofs.run_refusal.Statement.{statement}
 use Rattle.run_steps.proofs.run_refusal.Tie as tie

@@ -5,9 +5,9 @@ use denote.Ref.{now}
 use lib.ListN.{length}
 use borrow.Author.Needs.{needs}
 use Rattle.protocol.specs.Tables.{tables}
-use Rattle.types.specs.Conditions.{Valid}
+use Rattle.protocol_types.specs.Conditions.{Valid}
 use Rattle.protocol.specs.Runs.{engine}
-use Rattle.types.proofs.Conditions.{request-passed}
+use Rattle.protocol_types.proofs.Conditions.{request-passed}
 use Rattle.engine.specs.Usable.{Usable}
 use Rattle.run_progress.specs.Progress.{runStage, advanced}
 use Rattle.run_progress.proofs.Laws.{sums-taken, turned-refused, turned-taken}

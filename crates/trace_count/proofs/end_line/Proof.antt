@@ -3,7 +3,7 @@ use mathlib.Core.Path.{_≡_, refl, sym, ap, _∙_}
 use Prim.Native.Nat.{ℕ}
 use native.Mathlib.Omega.{arith}
 use borrow.Author.Needs.{needs}
-use Rattle.types.specs.Refusals.{noRefusal, malformedLine, unknownLabel}
+use Rattle.protocol_types.specs.Refusals.{noRefusal, malformedLine, unknownLabel}
 use Rattle.trace_lines.specs.declared.Meaning.the-variants.{Malformed, Unknown}
 use Rattle.trace_count.specs.Counting.{lineCounted}
 use Rattle.trace_count.proofs.Laws.{counted-refused}

@@ -1,6 +1,6 @@
 -- The five arrays of zeros are the fresh tables of the setup, by computing.
 use mathlib.Core.Path.{refl}
-use Rattle.types.specs.Board.{slots}
+use Rattle.protocol_types.specs.Board.{slots}
 use Rattle.protocol.specs.Tables.{fresh}
 use Rattle.trace_lines.specs.Trace.{traceSetup}
 use borrow.Author.Needs.{needs}

@@ -27,9 +27,9 @@ use denote.Struct.Laws as LL
 use denote.Triple.Spec.{tripleOf}
 use denote.Triple.Statement.{Contract}
 use denote.Triple.Clauses.{ensured, lasts}
-use Rattle.types.specs.declared.Setup.{Setup}
-use Rattle.types.proofs.Setup as Setup-t
-use Rattle.types.proofs.Setup.Laws as Setup-l
+use Rattle.protocol_types.specs.declared.Setup.{Setup}
+use Rattle.protocol_types.proofs.Setup as Setup-t
+use Rattle.protocol_types.proofs.Setup.Laws as Setup-l
 use Rattle.rival_pricing.specs.declared.Pricing.{Pricing}
 use Rattle.rival_pricing.proofs.Pricing as Pricing-t
 use Rattle.rival_pricing.proofs.Pricing.Laws as Pricing-l

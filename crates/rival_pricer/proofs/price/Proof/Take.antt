@@ -28,15 +28,15 @@ use denote.Triple.Spec.{tripleOf}
 use denote.Triple.Statement.{Contract}
 use denote.Triple.Clauses.{ensured, lasts}
 use denote.Triple.Walked.{says}
-use Rattle.types.specs.declared.Setup.{Setup}
-use Rattle.types.proofs.Setup as Setup-t
-use Rattle.types.proofs.Setup.Laws as Setup-l
+use Rattle.protocol_types.specs.declared.Setup.{Setup}
+use Rattle.protocol_types.proofs.Setup as Setup-t
+use Rattle.protocol_types.proofs.Setup.Laws as Setup-l
 use Rattle.rival_pricing.specs.declared.Pricing.{Pricing}
 use Rattle.rival_pricing.proofs.Pricing as Pricing-t
 use Rattle.rival_pricing.proofs.Pricing.Laws as Pricing-l
-use Rattle.types.specs.declared.Entry.{Entry}
-use Rattle.types.proofs.Entry as Entry-t
-use Rattle.types.proofs.Entry.Laws as Entry-l
+use Rattle.protocol_types.specs.declared.Entry.{Entry}
+use Rattle.protocol_types.proofs.Entry as Entry-t
+use Rattle.protocol_types.proofs.Entry.Laws as Entry-l
 use Rattle.protocol.specs.Rival.{rival}
 use Rattle.rival_pricing.specs.Stages.{PriceStage, priceStage, PriceReady, took}
 use Rattle.walks.proofs.Opening.{at-list, slice-at, Cells, Loan, slice-lends, slice-returns}

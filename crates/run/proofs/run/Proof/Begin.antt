@@ -27,12 +27,12 @@ use denote.Struct.Laws as LL
 use denote.Triple.Spec.{tripleOf}
 use denote.Triple.Statement.{Contract}
 use denote.Triple.Clauses.{ensured, lasts}
-use Rattle.types.specs.declared.Setup.{Setup}
-use Rattle.types.proofs.Setup as Setup-t
-use Rattle.types.proofs.Setup.Laws as Setup-l
-use Rattle.types.specs.declared.Account.{Account}
-use Rattle.types.proofs.Account as Account-t
-use Rattle.types.proofs.Account.Laws as Account-l
+use Rattle.protocol_types.specs.declared.Setup.{Setup}
+use Rattle.protocol_types.proofs.Setup as Setup-t
+use Rattle.protocol_types.proofs.Setup.Laws as Setup-l
+use Rattle.protocol_types.specs.declared.Account.{Account}
+use Rattle.protocol_types.proofs.Account as Account-t
+use Rattle.protocol_types.proofs.Account.Laws as Account-l
 use Rattle.run_progress.specs.declared.Progress.{Progress}
 use Rattle.run_progress.proofs.Progress as Progress-t
 use Rattle.run_progress.proofs.Progress.Laws as Progress-l

@@ -23,9 +23,9 @@ use denote.Triple.Spec.{tripleOf}
 use denote.Triple.Statement.{Contract}
 use denote.Triple.Clauses.{ensured, lasts}
 use denote.Triple.Walked.{says}
-use Rattle.types.specs.declared.Account.{Account}
-use Rattle.types.proofs.Account as Account-t
-use Rattle.types.proofs.Account.Laws as Account-l
+use Rattle.protocol_types.specs.declared.Account.{Account}
+use Rattle.protocol_types.proofs.Account as Account-t
+use Rattle.protocol_types.proofs.Account.Laws as Account-l
 use Rattle.run_progress.specs.Progress.{grown, GrowthFits}
 use Rattle.walks.proofs.Opening.{at-value}
 use Rattle.run_progress.proofs.grow_lent as grow-lent

@@ -23,9 +23,9 @@ use denote.Triple.Walked.{says}
 use Rattle.run_progress.specs.declared.Progress.{Progress}
 use Rattle.run_progress.proofs.Progress as Progress-t
 use Rattle.run_progress.proofs.Progress.Laws as Progress-l
-use Rattle.types.specs.declared.Account.{Account}
-use Rattle.types.proofs.Account as Account-t
-use Rattle.types.proofs.Account.Laws as Account-l
+use Rattle.protocol_types.specs.declared.Account.{Account}
+use Rattle.protocol_types.proofs.Account as Account-t
+use Rattle.protocol_types.proofs.Account.Laws as Account-l
 use Rattle.run_progress.specs.Progress.{growthOf}
 use Rattle.run_progress.proofs.growth as growth
 

@@ -28,15 +28,15 @@ use denote.Triple.Spec.{tripleOf}
 use denote.Triple.Statement.{Contract}
 use denote.Triple.Clauses.{ensured, lasts}
 use denote.Triple.Walked.{says}
-use Rattle.types.specs.declared.Setup.{Setup}
-use Rattle.types.proofs.Setup as Setup-t
-use Rattle.types.proofs.Setup.Laws as Setup-l
+use Rattle.protocol_types.specs.declared.Setup.{Setup}
+use Rattle.protocol_types.proofs.Setup as Setup-t
+use Rattle.protocol_types.proofs.Setup.Laws as Setup-l
 use Rattle.run_progress.specs.declared.Progress.{Progress}
 use Rattle.run_progress.proofs.Progress as Progress-t
 use Rattle.run_progress.proofs.Progress.Laws as Progress-l
-use Rattle.types.specs.declared.Request.{Request}
-use Rattle.types.proofs.Request as Request-t
-use Rattle.types.proofs.Request.Laws as Request-l
+use Rattle.protocol_types.specs.declared.Request.{Request}
+use Rattle.protocol_types.proofs.Request as Request-t
+use Rattle.protocol_types.proofs.Request.Laws as Request-l
 use Rattle.protocol.specs.Tables.{Tables as Tables₀, tables as lent}
 use Rattle.protocol.specs.Runs.{engine}
 use Rattle.engine.specs.Usable.{Usable}
