@@ -56,10 +56,11 @@ price = Loop(
           dict(name='with-entry', body='(else-of %s)' % body, callee=take, list='entries', index='(x .at .progress .at)', none='no-entry',
                args={'entry': 'e'}, **{'is': {'entry': 'e-is'}}, ready='(x .inv .goes go .ready)', next='took setup (x .at) e',
                inv='inv-took %s go flag' % at_turn, falls='falls-took %s go flag' % at_turn, within='at-entry %s go' % at_turn)],
-    done='(s .progress .answer ≡ priced %s) × (s .copies ≡ priceTables %s)' % (whole, whole), done_is='inv-end %s stopped' % at_turn,
+    done='(s .progress .answer ≡ priced %s) × (inNumbers (s .progress .answer) ≡ priceNumbers %s) × (s .copies ≡ priceTables %s)' % (whole, whole, whole),
+    done_is='in-numbers %s (inv-end %s stopped)' % (whole, at_turn),
     inv_params=['setup'] + BUFFERS + ['entries', 'requests'], inv=inv,
-    laws=[('protocol_types', 'Conditions', ['no-request']), (HERE, 'Loop', ['no-entry', 'Inv', 'μ', 'inv-start', 'inv-took', 'falls-took', 'inv-completed', 'falls-completed', 'at-entry', 'at-request', 'due', 'inv-end'])],
-    cites=[RIVAL_SPEC, ('protocol', 'Pricer', ['price as priced', 'priceTables']), stages('priceBegun', 'took', 'completed')],
+    laws=[('protocol_types', 'Conditions', ['no-request']), ('protocol', 'Pricer', ['in-numbers']), (HERE, 'Loop', ['no-entry', 'Inv', 'μ', 'inv-start', 'inv-took', 'falls-took', 'inv-completed', 'falls-completed', 'at-entry', 'at-request', 'due', 'inv-end'])],
+    cites=[RIVAL_SPEC, ('protocol', 'Pricer', ['price as priced', 'priceTables', 'inNumbers', 'priceNumbers']), stages('priceBegun', 'took', 'completed')],
     small=None)
 
 

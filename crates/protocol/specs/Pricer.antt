@@ -78,8 +78,28 @@ copiesAfter s (refused n k) = noCopies s
 unfoldable pub priceTables : Setup → Rival → List Request → List Entry → Rival
 priceTables s lent qs es = cond (eqb (priceRefusal s lent (length es) (length qs)) noRefusal) (copiesAfter s (verdict s qs es)) lent
 
--- ---- the paper's number, place and cost for each case of the answer
+-- ---- the paper's number, place and cost, where the answer is an enum
 
+pub record PriceNumbers : Type 0 where
+  pub number : ℕ
+  pub place : ℕ
+  pub cost : ℕ
+
+abbrev pub numbered : ℕ → ℕ → ℕ → PriceNumbers
+numbered n k c = record { number = n; place = k; cost = c }
+
+-- of a verdict
+abbrev pub numbersOf : Verdict → PriceNumbers
+numbersOf (accepted r c) = numbered noRefusal 0 (cycles c)
+numbersOf (refused n k) = numbered n k 0
+
+-- of a price: "with no refusal, or one of those five, the place is 0"
+unfoldable pub priceNumbers : Setup → Rival → List Request → List Entry → PriceNumbers
+priceNumbers s lent qs es =
+    cond (eqb (priceRefusal s lent (length es) (length qs)) noRefusal) (numbersOf (verdict s qs es))
+    (numbered (priceRefusal s lent (length es) (length qs)) 0 0)
+
+-- of each case of the answer
 abbrev pub numberOf : PriceAnswer → ℕ
 numberOf (Accepted c) = noRefusal
 numberOf (Refused n k) = n
@@ -91,3 +111,6 @@ placeOf (Refused n k) = k
 abbrev pub costOf : PriceAnswer → ℕ
 costOf (Accepted c) = c
 costOf (Refused n k) = 0
+
+abbrev pub inNumbers : PriceAnswer → PriceNumbers
+inNumbers a = numbered (numberOf a) (placeOf a) (costOf a)

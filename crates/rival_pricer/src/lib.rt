@@ -4,7 +4,7 @@ use protocol_types::PriceAnswer;
 use protocol_types::Request;
 use protocol_types::Setup;
 ghost use mathlib.Core.Path.{_≡_};
-ghost use Rattle.protocol.specs.Pricer.{price as priced, priceTables};
+ghost use Rattle.protocol.specs.Pricer.{price as priced, priceTables, inNumbers, priceNumbers};
 ghost use Rattle.rival_copies.specs.Copies.{rivalBefore, rivalAfter};
 
 // The schedule is played entry by entry from empty caches, to the first refused one.
@@ -17,6 +17,7 @@ pub fn price(
     requests: &[Request],
 ) -> PriceAnswer
     ensures { λ r. ⌜ (r ≡ priced setup (rivalBefore blocks held marks) (now (requests .entry)) (now (entries .entry)))
+        × (inNumbers r ≡ priceNumbers setup (rivalBefore blocks held marks) (now (requests .entry)) (now (entries .entry)))
         × (rivalAfter blocks held marks ≡ priceTables setup (rivalBefore blocks held marks) (now (requests .entry)) (now (entries .entry))) ⌝ }
 {
     let mut p = rival_schedule::begin(setup, blocks, held, marks, entries.len(), requests.len());

@@ -62,9 +62,10 @@ use Rattle.rival_pricing.proofs.Pricing.Laws as Pricing-l
 use Rattle.protocol_types.proofs.PriceAnswer as PriceAnswer-t
 use Rattle.protocol_types.proofs.PriceAnswer.Laws as PriceAnswer-l
 use Rattle.protocol.specs.Rival.{rival}
-use Rattle.protocol.specs.Pricer.{price as priced, priceTables}
+use Rattle.protocol.specs.Pricer.{price as priced, priceTables, inNumbers, priceNumbers}
 use Rattle.rival_pricing.specs.Stages.{PriceStage, priceBegun, took, completed}
 use Rattle.protocol_types.proofs.Conditions.{no-request}
+use Rattle.protocol.proofs.Pricer.{in-numbers}
 use Rattle.rival_pricer.proofs.Loop.{no-entry, Inv, μ, inv-start, inv-took, falls-took, inv-completed, falls-completed, at-entry, at-request, due, inv-end}
 use Rattle.walks.proofs.Frame.{dieAll, blocks as blocks-of, slots, alloc-all, leave-all, rest-of, then-of, else-of}
 use Rattle.walks.proofs.Opening.{at-list, slice-at, Cells, Opened, slice-opens, slice-closes}
@@ -160,7 +161,7 @@ module _ {M : Type 1} (𝓤 : URA M) (H : Heap 𝓤) (A : Atoms 𝓤) (W : Given
       at-once ! $ keep ! (7 ∷ 5 ∷ 3 ∷ 11 ∷ 2 ∷ 9 ∷ 0 ∷ 8 ∷ 6 ∷ 4 ∷ []) $ group ! 3 $ done !
 
   -- from the memory at the last stage to the end
-  module _ (s : PriceStage) (blocks-len : length (s .copies .blocks) ≡ length blocks) (held-len : length (s .copies .held) ≡ length held) (marks-len : length (s .copies .marks) ≡ length marks) (done-so : (s .progress .answer ≡ priced setup (rival blocks held marks) requests entries) × (s .copies ≡ priceTables setup (rival blocks held marks) requests entries)) (end-is : Is PriceAnswer-t.the-row (s .progress .answer) ((EL.val PriceAnswer-t.the-type PriceAnswer-l.the-laws (s .progress .answer)) ∷ [])) where
+  module _ (s : PriceStage) (blocks-len : length (s .copies .blocks) ≡ length blocks) (held-len : length (s .copies .held) ≡ length held) (marks-len : length (s .copies .marks) ≡ length marks) (done-so : (s .progress .answer ≡ priced setup (rival blocks held marks) requests entries) × (inNumbers (s .progress .answer) ≡ priceNumbers setup (rival blocks held marks) requests entries) × (s .copies ≡ priceTables setup (rival blocks held marks) requests entries)) (end-is : Is PriceAnswer-t.the-row (s .progress .answer) ((EL.val PriceAnswer-t.the-type PriceAnswer-l.the-laws (s .progress .answer)) ∷ [])) where
     abbrev AtEnd : Item 𝓤
     AtEnd = Held s ⊛ ‵ (flft κ-entries q-entries) ⊛ ‵ (ShrSlice (named 3) κ-entries Entry-t.the-row .own (at-list Entry-t.the-row b-entries o-entries γ-entries entries) ((slice-at Entry-t.the-row b-entries o-entries entries) ∷ [])) ⊛ ‵ (flft κ-requests q-requests) ⊛ ‵ (ShrSlice (named 4) κ-requests Request-t.the-row .own (at-list Request-t.the-row b-requests o-requests γ-requests requests) ((slice-at Request-t.the-row b-requests o-requests requests) ∷ [])) ⊛ Kept
 
@@ -208,7 +209,7 @@ module _ {M : Type 1} (𝓤 : URA M) (H : Heap 𝓤) (A : Atoms 𝓤) (W : Given
           rewrite ! 22 (λ (y : Bool). ‵ (fat fullShare tyBool l₁₆ 0 (vbool y))) stopped refl $
           leaves-loop ! (load ! (from ! (stop !)) (look ! 22 refl)) $ exec ! C Λ E code-mir.t-11 (atRet E Post) $
           assigns ! (of-opd ! (load ! (from ! (fld ! refl (stop !))) (look-in ! 13 (sub ! 8 refl (whole !))))) (from ! (stop !)) (init ! 6 refl (EL.lawful PriceAnswer-t.the-type PriceAnswer-l.the-laws 𝓤 H A W tt .typed (x .at .progress .answer) _ (LL.owed Pricing-t.the-type Pricing-l.the-laws (x .at .progress) _ (x .is) .1 .1 .1 .1 .1 .1 .1 .1 .0) .0)) $
-          move ! (0 ∷ 1 ∷ 2 ∷ 3 ∷ 4 ∷ 5 ∷ []) $ group ! 6 $ use1 W (later (raw (Post (EL.val PriceAnswer-t.the-type PriceAnswer-l.the-laws (x .at .progress .answer))))) (finish (x .at) (x .blocks-len) (x .held-len) (x .marks-len) (inv-end setup (rival blocks held marks) entries requests (x .at) (x .inv) stopped) end-is) $ await ! tt $
+          move ! (0 ∷ 1 ∷ 2 ∷ 3 ∷ 4 ∷ 5 ∷ []) $ group ! 6 $ use1 W (later (raw (Post (EL.val PriceAnswer-t.the-type PriceAnswer-l.the-laws (x .at .progress .answer))))) (finish (x .at) (x .blocks-len) (x .held-len) (x .marks-len) (in-numbers setup (rival blocks held marks) requests entries (inv-end setup (rival blocks held marks) entries requests (x .at) (x .inv) stopped)) end-is) $ await ! tt $
           returns ! (look ! 1 refl) $ leave-all ! E (is-some (EL.val PriceAnswer-t.the-type PriceAnswer-l.the-laws (x .at .progress .answer)) ∷ is-some (LL.val Setup-t.the-type Setup-l.the-laws setup) ∷ is-some (slice-at u32 b-blocks o-blocks blocks) ∷ is-some (slice-at u32 b-held o-held held) ∷ is-some (slice-at u32 b-marks o-marks marks) ∷ is-some (slice-at Entry-t.the-row b-entries o-entries entries) ∷ is-some (slice-at Request-t.the-row b-requests o-requests requests) ∷ is-some (LL.val Pricing-t.the-type Pricing-l.the-laws (x .at .progress)) ∷ none ∷ none ∷ none ∷ none ∷ none ∷ none ∷ none ∷ none ∷ is-some (vbool false) ∷ []) (done !)
         where
           end-is : Is PriceAnswer-t.the-row (x .at .progress .answer) ((EL.val PriceAnswer-t.the-type PriceAnswer-l.the-laws (x .at .progress .answer)) ∷ [])
