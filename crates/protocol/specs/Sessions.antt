@@ -12,7 +12,7 @@ use Rattle.protocol.specs.Accounts.{freshAccount, entered}
 use Rattle.protocol.specs.Engines.{answered, Outcome, run}
 use Rattle.protocol.specs.Runs.{startRefusal, started, looked, engine}
 use Rattle.protocol.specs.Rival.{Rival, rival}
-use Rattle.protocol.specs.Pricer.{price, priceTables, numberOf, placeOf, costOf}
+use Rattle.protocol.specs.Pricer.{priceRefusal, price, priceTables, PriceNumbers, numbered, inNumbers}
 use Rattle.protocol_types.specs.declared.Setup.{Setup}
 use Rattle.protocol_types.specs.declared.Request.{Request}
 use Rattle.protocol_types.specs.declared.Operation.the-variants.{Read, Write}
@@ -31,6 +31,10 @@ board n l p m = record { processors = n; lines = l; words = p; blocks = m }
 -- "N 4, L 8, M 64, p 4 unless said"
 abbrev pub usual : Setup
 usual = board 4 8 4 64
+
+-- the board of most quotes
+abbrev pub small : Setup
+small = board 2 2 3 5
 
 abbrev pub read : ℕ → ℕ → Request
 read i v = record { processor = i; operation = Read (record { 0 = v }) }
@@ -110,21 +114,25 @@ sameAccount a c = eqb (a .requests) (c .requests) && eqb (a .fetch) (c .fetch) &
 abbrev pub sameAnswer : RunAnswer → RunAnswer → Bool
 sameAnswer a c = eqb (a .taken) (c .taken) && eqb (a .refusal) (c .refusal) && eqb (a .place) (c .place)
 
+abbrev pub sameNumbers : PriceNumbers → PriceNumbers → Bool
+sameNumbers a c = eqb (a .number) (c .number) && eqb (a .place) (c .place) && eqb (a .cost) (c .cost)
+
 -- ---- the kinds of rows
 
 -- a run after other requests
 pub record Session : Type 0 where
   pub setup : Setup
-  -- taken first, from fresh tables
-  pub before : List Request
-  -- the account that the run meets
+  -- the account at first
   pub account : Account
+  -- taken first, from fresh tables: the run meets the tables and the account that they leave
+  pub before : List Request
   pub requests : List Request
   -- what it leaves in a list of as many nines
   pub values : List ℕ
   pub answer : RunAnswer
-  -- what it adds to the account, besides the requests taken
+  -- what it adds to the account, besides the requests taken, and the account that it leaves
   pub cost : Bill
+  pub left : Account
   -- whether any table changes
   pub changes : Bool
   -- every line and every word of memory that is then not 0
@@ -161,18 +169,27 @@ pub data Row : Type 0 where
   tabled : Setup → Tables → ℕ → Row
   lent : Lent → Row
   quote : Quote → Row
+  -- what the pricer checks before the first entry: block numbers, held marks and dirty marks of these lengths, n entries, m requests, and the refusal
+  checked : Setup → ℕ → ℕ → ℕ → ℕ → ℕ → ℕ → Row
+
+-- a schedule that is refused by n at place k: no cost, and tables of zeros
+abbrev pub refusedAt : Setup → List Request → List Entry → ℕ → ℕ → Row
+refusedAt s qs es n k =
+    let zeros : List ℕ = replicate (s .processors * s .lines) 0 in
+    quote (record { setup = s; requests = qs; entries = es; number = n; place = k; cost = 0; blocks = zeros; held = zeros; marks = zeros })
 
 -- ---- when a row passes
 
 unfoldable pub sessionPasses : Session → Bool
 sessionPasses w =
     let s : Setup = w .setup in
-    let t : Tables = run (engine s) (fresh s) freshAccount (w .before) (replicate (length (w .before)) 9) .tables in
-    let o : Outcome Tables = run (engine s) t (w .account) (w .requests) (replicate (length (w .requests)) 9) in
-    sameAnswer (o .answer) (w .answer) && sameList (o .values) (w .values)
-    && sameAccount (o .account) (entered (w .account) (w .answer .taken) (w .cost))
+    let b : Outcome Tables = run (engine s) (fresh s) (w .account) (w .before) (replicate (length (w .before)) 9) in
+    let o : Outcome Tables = run (engine s) (b .tables) (b .account) (w .requests) (replicate (length (w .requests)) 9) in
+    eqb (b .answer .taken) (length (w .before))
+    && sameAnswer (o .answer) (w .answer) && sameList (o .values) (w .values)
+    && sameAccount (o .account) (w .left) && sameAccount (w .left) (entered (b .account) (w .answer .taken) (w .cost))
     && sameTables (o .tables) (holding s (w .lines) (w .memory))
-    && cond (w .changes) (not (sameTables (o .tables) t)) (sameTables (o .tables) t)
+    && cond (w .changes) (not (sameTables (o .tables) (b .tables))) (sameTables (o .tables) (b .tables))
 
 -- an empty list: nothing changes, 0 taken
 unfoldable pub tabledPasses : Setup → Tables → ℕ → Bool
@@ -196,8 +213,7 @@ sevens s = rival (replicate (slots s) 7) (replicate (slots s) 7) (replicate (slo
 unfoldable pub quotePasses : Quote → Bool
 quotePasses w =
     let r : Rival = priceTables (w .setup) (sevens (w .setup)) (w .requests) (w .entries) in
-    let a = price (w .setup) (sevens (w .setup)) (w .requests) (w .entries) in
-    eqb (numberOf a) (w .number) && eqb (placeOf a) (w .place) && eqb (costOf a) (w .cost)
+    sameNumbers (inNumbers (price (w .setup) (sevens (w .setup)) (w .requests) (w .entries))) (numbered (w .number) (w .place) (w .cost))
     && sameList (r .blocks) (w .blocks) && sameList (r .held) (w .held) && sameList (r .marks) (w .marks)
 
 abbrev pub passes : Row → Bool
@@ -205,6 +221,7 @@ passes (session w) = sessionPasses w
 passes (tabled s t n) = tabledPasses s t n
 passes (lent w) = lentPasses w
 passes (quote w) = quotePasses w
+passes (checked s b h k n m x) = eqb (priceRefusal s (rival (replicate b 7) (replicate h 7) (replicate k 7)) n m) x
 
 abbrev pub everyRow : List Row → Bool
 everyRow [] = true
@@ -217,12 +234,13 @@ rows =
     -- S1
     session (record {
       setup = usual;
-      before = [];
       account = account 0 0 0 0;
+      before = [];
       requests = read 0 0 ∷ [];
       values = 0 ∷ [];
       answer = answered 1 0 0;
       cost = cost 4 0 0;
+      left = account 1 4 0 0;
       changes = true;
       lines = copy 0 0 4 0 (0 ∷ 0 ∷ 0 ∷ 0 ∷ []) ∷ [];
       memory = [];
@@ -230,12 +248,13 @@ rows =
     -- S2
     ∷ session (record {
       setup = usual;
+      account = account 0 0 0 0;
       before = read 0 0 ∷ [];
-      account = account 1 0 0 0;
       requests = read 0 0 ∷ [];
       values = 0 ∷ [];
       answer = answered 1 0 0;
       cost = cost 0 0 0;
+      left = account 2 4 0 0;
       changes = false;
       lines = copy 0 0 4 0 (0 ∷ 0 ∷ 0 ∷ 0 ∷ []) ∷ [];
       memory = [];
@@ -243,12 +262,13 @@ rows =
     -- S3
     ∷ session (record {
       setup = usual;
+      account = account 0 0 0 0;
       before = read 0 0 ∷ [];
-      account = account 1 0 0 0;
       requests = write 0 0 7 ∷ [];
       values = 7 ∷ [];
       answer = answered 1 0 0;
       cost = cost 0 0 0;
+      left = account 2 4 0 0;
       changes = true;
       lines = copy 0 0 4 1 (7 ∷ 0 ∷ 0 ∷ 0 ∷ []) ∷ [];
       memory = [];
@@ -256,12 +276,13 @@ rows =
     -- S4
     ∷ session (record {
       setup = usual;
+      account = account 0 0 0 0;
       before = read 0 0 ∷ write 0 0 7 ∷ [];
-      account = account 2 0 0 0;
       requests = read 1 0 ∷ [];
       values = 7 ∷ [];
       answer = answered 1 0 0;
       cost = cost 4 0 0;
+      left = account 3 8 0 0;
       changes = true;
       lines = copy 0 0 4 0 (7 ∷ 0 ∷ 0 ∷ 0 ∷ []) ∷ copy 8 0 4 0 (7 ∷ 0 ∷ 0 ∷ 0 ∷ []) ∷ [];
       memory = cell 0 7 ∷ [];
@@ -269,12 +290,13 @@ rows =
     -- S5, write 1 of 4
     ∷ session (record {
       setup = usual;
+      account = account 0 0 0 0;
       before = read 0 0 ∷ write 0 0 7 ∷ read 1 0 ∷ [];
-      account = account 3 0 0 0;
       requests = write 0 1 11 ∷ [];
       values = 11 ∷ [];
       answer = answered 1 0 0;
       cost = cost 0 0 1;
+      left = account 4 8 0 1;
       changes = true;
       lines = copy 0 0 4 0 (7 ∷ 11 ∷ 0 ∷ 0 ∷ []) ∷ copy 8 0 3 0 (7 ∷ 11 ∷ 0 ∷ 0 ∷ []) ∷ [];
       memory = cell 0 7 ∷ cell 1 11 ∷ [];
@@ -282,12 +304,13 @@ rows =
     -- S5, write 2 of 4
     ∷ session (record {
       setup = usual;
+      account = account 0 0 0 0;
       before = read 0 0 ∷ write 0 0 7 ∷ read 1 0 ∷ write 0 1 11 ∷ [];
-      account = account 4 0 0 0;
       requests = write 0 2 12 ∷ [];
       values = 12 ∷ [];
       answer = answered 1 0 0;
       cost = cost 0 0 1;
+      left = account 5 8 0 2;
       changes = true;
       lines = copy 0 0 4 0 (7 ∷ 11 ∷ 12 ∷ 0 ∷ []) ∷ copy 8 0 2 0 (7 ∷ 11 ∷ 12 ∷ 0 ∷ []) ∷ [];
       memory = cell 0 7 ∷ cell 1 11 ∷ cell 2 12 ∷ [];
@@ -295,12 +318,13 @@ rows =
     -- S5, write 3 of 4
     ∷ session (record {
       setup = usual;
+      account = account 0 0 0 0;
       before = read 0 0 ∷ write 0 0 7 ∷ read 1 0 ∷ write 0 1 11 ∷ write 0 2 12 ∷ [];
-      account = account 5 0 0 0;
       requests = write 0 3 13 ∷ [];
       values = 13 ∷ [];
       answer = answered 1 0 0;
       cost = cost 0 0 1;
+      left = account 6 8 0 3;
       changes = true;
       lines = copy 0 0 4 0 (7 ∷ 11 ∷ 12 ∷ 13 ∷ []) ∷ copy 8 0 1 0 (7 ∷ 11 ∷ 12 ∷ 13 ∷ []) ∷ [];
       memory = cell 0 7 ∷ cell 1 11 ∷ cell 2 12 ∷ cell 3 13 ∷ [];
@@ -308,12 +332,13 @@ rows =
     -- S5, write 4 of 4 empties 1's line
     ∷ session (record {
       setup = usual;
+      account = account 0 0 0 0;
       before = read 0 0 ∷ write 0 0 7 ∷ read 1 0 ∷ write 0 1 11 ∷ write 0 2 12 ∷ write 0 3 13 ∷ [];
-      account = account 6 0 0 0;
       requests = write 0 1 14 ∷ [];
       values = 14 ∷ [];
       answer = answered 1 0 0;
       cost = cost 0 0 1;
+      left = account 7 8 0 4;
       changes = true;
       lines = copy 0 0 4 0 (7 ∷ 14 ∷ 12 ∷ 13 ∷ []) ∷ [];
       memory = cell 0 7 ∷ cell 1 14 ∷ cell 2 12 ∷ cell 3 13 ∷ [];
@@ -321,12 +346,13 @@ rows =
     -- S5, the four in one run: 4 cycles
     ∷ session (record {
       setup = usual;
+      account = account 0 0 0 0;
       before = read 0 0 ∷ write 0 0 7 ∷ read 1 0 ∷ [];
-      account = account 3 0 0 0;
       requests = write 0 1 11 ∷ write 0 2 12 ∷ write 0 3 13 ∷ write 0 1 14 ∷ [];
       values = 11 ∷ 12 ∷ 13 ∷ 14 ∷ [];
       answer = answered 4 0 0;
       cost = cost 0 0 4;
+      left = account 7 8 0 4;
       changes = true;
       lines = copy 0 0 4 0 (7 ∷ 14 ∷ 12 ∷ 13 ∷ []) ∷ [];
       memory = cell 0 7 ∷ cell 1 14 ∷ cell 2 12 ∷ cell 3 13 ∷ [];
@@ -334,12 +360,13 @@ rows =
     -- S6
     ∷ session (record {
       setup = usual;
+      account = account 0 0 0 0;
       before = read 0 0 ∷ write 0 0 7 ∷ read 1 0 ∷ write 0 1 11 ∷ write 0 2 12 ∷ write 0 3 13 ∷ write 0 1 14 ∷ [];
-      account = account 7 0 0 0;
       requests = write 0 2 15 ∷ [];
       values = 15 ∷ [];
       answer = answered 1 0 0;
       cost = cost 0 0 0;
+      left = account 8 8 0 4;
       changes = true;
       lines = copy 0 0 4 1 (7 ∷ 14 ∷ 15 ∷ 13 ∷ []) ∷ [];
       memory = cell 0 7 ∷ cell 1 14 ∷ cell 2 12 ∷ cell 3 13 ∷ [];
@@ -347,12 +374,13 @@ rows =
     -- S7
     ∷ session (record {
       setup = usual;
+      account = account 0 0 0 0;
       before = read 0 0 ∷ write 0 0 7 ∷ [];
-      account = account 2 0 0 0;
       requests = read 0 32 ∷ [];
       values = 0 ∷ [];
       answer = answered 1 0 0;
       cost = cost 4 4 0;
+      left = account 3 8 4 0;
       changes = true;
       lines = copy 0 8 4 0 (0 ∷ 0 ∷ 0 ∷ 0 ∷ []) ∷ [];
       memory = cell 0 7 ∷ [];
@@ -360,12 +388,13 @@ rows =
     -- S8
     ∷ session (record {
       setup = usual;
+      account = account 0 0 0 0;
       before = read 0 0 ∷ [];
-      account = account 1 0 0 0;
       requests = read 0 32 ∷ [];
       values = 0 ∷ [];
       answer = answered 1 0 0;
       cost = cost 4 0 0;
+      left = account 2 8 0 0;
       changes = true;
       lines = copy 0 8 4 0 (0 ∷ 0 ∷ 0 ∷ 0 ∷ []) ∷ [];
       memory = [];
@@ -373,12 +402,13 @@ rows =
     -- S9, on block 9 in line 1
     ∷ session (record {
       setup = usual;
+      account = account 0 0 0 0;
       before = read 0 39 ∷ read 1 39 ∷ read 2 39 ∷ [];
-      account = account 3 0 0 0;
       requests = write 1 38 6 ∷ [];
       values = 6 ∷ [];
       answer = answered 1 0 0;
       cost = cost 0 0 1;
+      left = account 4 12 0 1;
       changes = true;
       lines = copy 1 9 3 0 (0 ∷ 0 ∷ 6 ∷ 0 ∷ []) ∷ copy 9 9 4 0 (0 ∷ 0 ∷ 6 ∷ 0 ∷ []) ∷ copy 17 9 4 0 (0 ∷ 0 ∷ 6 ∷ 0 ∷ []) ∷ [];
       memory = cell 38 6 ∷ [];
@@ -386,12 +416,13 @@ rows =
     -- S10, processors 1 and 3 on block 13
     ∷ session (record {
       setup = board 4 8 1 64;
+      account = account 0 0 0 0;
       before = read 1 13 ∷ read 3 13 ∷ [];
-      account = account 2 0 0 0;
       requests = write 3 13 6 ∷ [];
       values = 6 ∷ [];
       answer = answered 1 0 0;
       cost = cost 0 0 1;
+      left = account 3 2 0 1;
       changes = true;
       lines = copy 29 13 1 0 (6 ∷ []) ∷ [];
       memory = cell 13 6 ∷ [];
@@ -399,12 +430,13 @@ rows =
     -- S11, on tables in use
     ∷ session (record {
       setup = usual;
+      account = account 0 0 0 0;
       before = write 0 37 6 ∷ read 2 37 ∷ write 3 10 5 ∷ [];
-      account = account 5 8 0 1;
       requests = [];
       values = [];
       answer = answered 0 0 0;
       cost = cost 0 0 0;
+      left = account 3 12 0 0;
       changes = false;
       lines = copy 1 9 4 0 (0 ∷ 6 ∷ 0 ∷ 0 ∷ []) ∷ copy 17 9 4 0 (0 ∷ 6 ∷ 0 ∷ 0 ∷ []) ∷ copy 26 2 4 1 (0 ∷ 0 ∷ 5 ∷ 0 ∷ []) ∷ [];
       memory = cell 37 6 ∷ [];
@@ -412,12 +444,13 @@ rows =
     -- S12 at 999,999: one more is taken
     ∷ session (record {
       setup = usual;
-      before = [];
       account = account 999999 3999996 3999996 999999;
+      before = [];
       requests = read 3 39 ∷ read 2 39 ∷ [];
       values = 0 ∷ 9 ∷ [];
       answer = answered 1 22 1;
       cost = cost 4 0 0;
+      left = account 1000000 4000000 3999996 999999;
       changes = true;
       lines = copy 25 9 4 0 (0 ∷ 0 ∷ 0 ∷ 0 ∷ []) ∷ [];
       memory = [];
@@ -425,12 +458,13 @@ rows =
     -- S12 at 1,000,000
     ∷ session (record {
       setup = usual;
-      before = [];
       account = account 1000000 4000000 0 0;
+      before = [];
       requests = read 3 39 ∷ [];
       values = 9 ∷ [];
       answer = answered 0 22 0;
       cost = cost 0 0 0;
+      left = account 1000000 4000000 0 0;
       changes = false;
       lines = [];
       memory = [];
@@ -438,12 +472,13 @@ rows =
     -- variable 255 is taken
     ∷ session (record {
       setup = usual;
-      before = [];
       account = account 0 0 0 0;
+      before = [];
       requests = read 2 255 ∷ [];
       values = 0 ∷ [];
       answer = answered 1 0 0;
       cost = cost 4 0 0;
+      left = account 1 4 0 0;
       changes = true;
       lines = copy 23 63 4 0 (0 ∷ 0 ∷ 0 ∷ 0 ∷ []) ∷ [];
       memory = [];
@@ -451,12 +486,13 @@ rows =
     -- variable 256 gives 4, and stops the run
     ∷ session (record {
       setup = usual;
+      account = account 0 0 0 0;
       before = read 2 39 ∷ [];
-      account = account 1 0 0 0;
       requests = read 2 38 ∷ read 2 256 ∷ read 2 38 ∷ [];
       values = 0 ∷ 9 ∷ 9 ∷ [];
       answer = answered 1 4 1;
       cost = cost 0 0 0;
+      left = account 2 4 0 0;
       changes = false;
       lines = copy 17 9 4 0 (0 ∷ 0 ∷ 0 ∷ 0 ∷ []) ∷ [];
       memory = [];
@@ -464,12 +500,13 @@ rows =
     -- N 8 is taken
     ∷ session (record {
       setup = board 8 8 4 64;
-      before = [];
       account = account 0 0 0 0;
+      before = [];
       requests = write 7 39 5 ∷ [];
       values = 5 ∷ [];
       answer = answered 1 0 0;
       cost = cost 4 0 0;
+      left = account 1 4 0 0;
       changes = true;
       lines = copy 57 9 4 1 (0 ∷ 0 ∷ 0 ∷ 5 ∷ []) ∷ [];
       memory = [];
@@ -477,12 +514,13 @@ rows =
     -- N 9 gives 1
     ∷ session (record {
       setup = board 9 8 4 64;
-      before = [];
       account = account 0 0 0 0;
+      before = [];
       requests = write 7 39 5 ∷ [];
       values = 9 ∷ [];
       answer = answered 0 1 0;
       cost = cost 0 0 0;
+      left = account 0 0 0 0;
       changes = false;
       lines = [];
       memory = [];
@@ -490,12 +528,13 @@ rows =
     -- 3 before 4
     ∷ session (record {
       setup = usual;
-      before = [];
       account = account 0 0 0 0;
+      before = [];
       requests = write 1 39 5 ∷ write 4 256 1 ∷ [];
       values = 5 ∷ 9 ∷ [];
       answer = answered 1 3 1;
       cost = cost 4 0 0;
+      left = account 1 4 0 0;
       changes = true;
       lines = copy 9 9 4 1 (0 ∷ 0 ∷ 0 ∷ 5 ∷ []) ∷ [];
       memory = [];
@@ -503,12 +542,13 @@ rows =
     -- 3 before 22
     ∷ session (record {
       setup = usual;
-      before = [];
       account = account 1000000 0 0 0;
+      before = [];
       requests = read 4 39 ∷ [];
       values = 9 ∷ [];
       answer = answered 0 3 0;
       cost = cost 0 0 0;
+      left = account 1000000 0 0 0;
       changes = false;
       lines = [];
       memory = [];
@@ -516,12 +556,13 @@ rows =
     -- 4 before 22
     ∷ session (record {
       setup = usual;
-      before = [];
       account = account 1000000 0 0 0;
+      before = [];
       requests = read 1 256 ∷ [];
       values = 9 ∷ [];
       answer = answered 0 4 0;
       cost = cost 0 0 0;
+      left = account 1000000 0 0 0;
       changes = false;
       lines = [];
       memory = [];
@@ -529,12 +570,13 @@ rows =
     -- 22 is checked for each request: an empty list meets none
     ∷ session (record {
       setup = usual;
-      before = [];
       account = account 2000000 0 0 0;
+      before = [];
       requests = [];
       values = [];
       answer = answered 0 0 0;
       cost = cost 0 0 0;
+      left = account 2000000 0 0 0;
       changes = false;
       lines = [];
       memory = [];
@@ -542,12 +584,13 @@ rows =
     -- 21: fetch cycles over p × requests
     ∷ session (record {
       setup = usual;
-      before = [];
       account = account 2 9 8 2;
+      before = [];
       requests = read 1 39 ∷ [];
       values = 9 ∷ [];
       answer = answered 0 21 0;
       cost = cost 0 0 0;
+      left = account 2 9 8 2;
       changes = false;
       lines = [];
       memory = [];
@@ -555,12 +598,13 @@ rows =
     -- 21: write-back cycles over p × requests
     ∷ session (record {
       setup = usual;
-      before = [];
       account = account 2 8 9 2;
+      before = [];
       requests = read 1 39 ∷ [];
       values = 9 ∷ [];
       answer = answered 0 21 0;
       cost = cost 0 0 0;
+      left = account 2 8 9 2;
       changes = false;
       lines = [];
       memory = [];
@@ -568,12 +612,13 @@ rows =
     -- 21: update cycles over requests
     ∷ session (record {
       setup = usual;
-      before = [];
       account = account 2 8 8 3;
+      before = [];
       requests = read 1 39 ∷ [];
       values = 9 ∷ [];
       answer = answered 0 21 0;
       cost = cost 0 0 0;
+      left = account 2 8 8 3;
       changes = false;
       lines = [];
       memory = [];
@@ -581,12 +626,13 @@ rows =
     -- an account at its limits is possible
     ∷ session (record {
       setup = usual;
-      before = [];
       account = account 2 8 8 2;
+      before = [];
       requests = read 1 39 ∷ [];
       values = 0 ∷ [];
       answer = answered 1 0 0;
       cost = cost 4 0 0;
+      left = account 3 12 8 2;
       changes = true;
       lines = copy 9 9 4 0 (0 ∷ 0 ∷ 0 ∷ 0 ∷ []) ∷ [];
       memory = [];
@@ -594,12 +640,13 @@ rows =
     -- mistake 1: one payer, the lowest-numbered other holder
     ∷ session (record {
       setup = usual;
+      account = account 0 0 0 0;
       before = read 1 39 ∷ read 2 39 ∷ read 3 39 ∷ write 3 37 4 ∷ [];
-      account = account 4 0 0 0;
       requests = write 1 38 6 ∷ [];
       values = 6 ∷ [];
       answer = answered 1 0 0;
       cost = cost 0 0 1;
+      left = account 5 12 0 2;
       changes = true;
       lines = copy 9 9 4 0 (0 ∷ 4 ∷ 6 ∷ 0 ∷ []) ∷ copy 17 9 3 0 (0 ∷ 4 ∷ 6 ∷ 0 ∷ []) ∷ copy 25 9 4 0 (0 ∷ 4 ∷ 6 ∷ 0 ∷ []) ∷ [];
       memory = cell 37 4 ∷ cell 38 6 ∷ [];
@@ -607,12 +654,13 @@ rows =
     -- mistake 2: an unmarked block is not written back
     ∷ session (record {
       setup = usual;
+      account = account 0 0 0 0;
       before = write 0 37 6 ∷ read 1 37 ∷ [];
-      account = account 2 0 0 0;
       requests = read 1 5 ∷ [];
       values = 0 ∷ [];
       answer = answered 1 0 0;
       cost = cost 4 0 0;
+      left = account 3 12 0 0;
       changes = true;
       lines = copy 1 9 4 0 (0 ∷ 6 ∷ 0 ∷ 0 ∷ []) ∷ copy 9 1 4 0 (0 ∷ 0 ∷ 0 ∷ 0 ∷ []) ∷ [];
       memory = cell 37 6 ∷ [];
@@ -620,12 +668,13 @@ rows =
     -- mistake 3: the old owner is left unmarked, its counter stays
     ∷ session (record {
       setup = usual;
+      account = account 0 0 0 0;
       before = write 3 39 5 ∷ [];
-      account = account 1 0 0 0;
       requests = read 2 39 ∷ [];
       values = 5 ∷ [];
       answer = answered 1 0 0;
       cost = cost 4 0 0;
+      left = account 2 8 0 0;
       changes = true;
       lines = copy 17 9 4 0 (0 ∷ 0 ∷ 0 ∷ 5 ∷ []) ∷ copy 25 9 4 0 (0 ∷ 0 ∷ 0 ∷ 5 ∷ []) ∷ [];
       memory = cell 39 5 ∷ [];
@@ -633,12 +682,13 @@ rows =
     -- mistake 4: a lone holder's counter is refilled, not lowered
     ∷ session (record {
       setup = usual;
+      account = account 0 0 0 0;
       before = read 1 37 ∷ read 2 37 ∷ write 2 37 6 ∷ read 2 5 ∷ [];
-      account = account 4 0 0 0;
       requests = write 1 38 3 ∷ [];
       values = 3 ∷ [];
       answer = answered 1 0 0;
       cost = cost 0 0 0;
+      left = account 5 12 0 1;
       changes = true;
       lines = copy 9 9 4 1 (0 ∷ 6 ∷ 3 ∷ 0 ∷ []) ∷ copy 17 1 4 0 (0 ∷ 0 ∷ 0 ∷ 0 ∷ []) ∷ [];
       memory = cell 37 6 ∷ [];
@@ -646,12 +696,13 @@ rows =
     -- mistake 5: a read hit raises no counter
     ∷ session (record {
       setup = usual;
+      account = account 0 0 0 0;
       before = read 1 37 ∷ read 2 37 ∷ write 2 37 6 ∷ [];
-      account = account 3 0 0 0;
       requests = read 1 37 ∷ [];
       values = 6 ∷ [];
       answer = answered 1 0 0;
       cost = cost 0 0 0;
+      left = account 4 8 0 1;
       changes = false;
       lines = copy 9 9 3 0 (0 ∷ 6 ∷ 0 ∷ 0 ∷ []) ∷ copy 17 9 4 0 (0 ∷ 6 ∷ 0 ∷ 0 ∷ []) ∷ [];
       memory = cell 37 6 ∷ [];
@@ -659,12 +710,13 @@ rows =
     -- a write refills the writer's counter, and the payer is another
     ∷ session (record {
       setup = usual;
+      account = account 0 0 0 0;
       before = read 1 37 ∷ read 2 37 ∷ write 2 37 6 ∷ [];
-      account = account 3 0 0 0;
       requests = write 1 38 3 ∷ [];
       values = 3 ∷ [];
       answer = answered 1 0 0;
       cost = cost 0 0 1;
+      left = account 4 8 0 2;
       changes = true;
       lines = copy 9 9 4 0 (0 ∷ 6 ∷ 3 ∷ 0 ∷ []) ∷ copy 17 9 3 0 (0 ∷ 6 ∷ 3 ∷ 0 ∷ []) ∷ [];
       memory = cell 37 6 ∷ cell 38 3 ∷ [];
@@ -672,12 +724,13 @@ rows =
     -- a write miss on a block that another has marked
     ∷ session (record {
       setup = usual;
+      account = account 0 0 0 0;
       before = write 1 37 6 ∷ [];
-      account = account 1 0 0 0;
       requests = write 3 39 2 ∷ [];
       values = 2 ∷ [];
       answer = answered 1 0 0;
       cost = cost 4 0 1;
+      left = account 2 8 0 1;
       changes = true;
       lines = copy 9 9 3 0 (0 ∷ 6 ∷ 0 ∷ 2 ∷ []) ∷ copy 25 9 4 0 (0 ∷ 6 ∷ 0 ∷ 2 ∷ []) ∷ [];
       memory = cell 37 6 ∷ cell 39 2 ∷ [];
@@ -685,12 +738,13 @@ rows =
     -- a write miss on the line of a marked block
     ∷ session (record {
       setup = usual;
+      account = account 0 0 0 0;
       before = write 2 37 6 ∷ [];
-      account = account 1 0 0 0;
       requests = write 2 6 3 ∷ [];
       values = 3 ∷ [];
       answer = answered 1 0 0;
       cost = cost 4 4 0;
+      left = account 2 8 4 0;
       changes = true;
       lines = copy 17 1 4 1 (0 ∷ 0 ∷ 3 ∷ 0 ∷ []) ∷ [];
       memory = cell 37 6 ∷ [];
@@ -698,12 +752,13 @@ rows =
     -- a block that was written back is fetched with the word that was written
     ∷ session (record {
       setup = usual;
+      account = account 0 0 0 0;
       before = write 2 37 6 ∷ read 2 6 ∷ [];
-      account = account 2 0 0 0;
       requests = read 3 37 ∷ [];
       values = 6 ∷ [];
       answer = answered 1 0 0;
       cost = cost 4 0 0;
+      left = account 3 12 4 0;
       changes = true;
       lines = copy 17 1 4 0 (0 ∷ 0 ∷ 0 ∷ 0 ∷ []) ∷ copy 25 9 4 0 (0 ∷ 6 ∷ 0 ∷ 0 ∷ []) ∷ [];
       memory = cell 37 6 ∷ [];
@@ -711,12 +766,13 @@ rows =
     -- a fetch brings p words and no more
     ∷ session (record {
       setup = usual;
+      account = account 0 0 0 0;
       before = write 0 41 5 ∷ read 1 41 ∷ read 0 8 ∷ [];
-      account = account 3 0 0 0;
       requests = read 0 37 ∷ [];
       values = 0 ∷ [];
       answer = answered 1 0 0;
       cost = cost 4 0 0;
+      left = account 4 16 0 0;
       changes = true;
       lines = copy 1 9 4 0 (0 ∷ 0 ∷ 0 ∷ 0 ∷ []) ∷ copy 2 2 4 0 (0 ∷ 0 ∷ 0 ∷ 0 ∷ []) ∷ copy 10 10 4 0 (0 ∷ 5 ∷ 0 ∷ 0 ∷ []) ∷ [];
       memory = cell 41 5 ∷ [];
@@ -724,12 +780,13 @@ rows =
     -- a write-back takes p words and no more, and clears one mark
     ∷ session (record {
       setup = usual;
+      account = account 0 0 0 0;
       before = write 0 37 6 ∷ write 0 9 5 ∷ [];
-      account = account 2 0 0 0;
       requests = read 0 5 ∷ [];
       values = 0 ∷ [];
       answer = answered 1 0 0;
       cost = cost 4 4 0;
+      left = account 3 12 4 0;
       changes = true;
       lines = copy 1 1 4 0 (0 ∷ 0 ∷ 0 ∷ 0 ∷ []) ∷ copy 2 2 4 1 (0 ∷ 5 ∷ 0 ∷ 0 ∷ []) ∷ [];
       memory = cell 37 6 ∷ [];
@@ -737,12 +794,13 @@ rows =
     -- a line that becomes empty is p words and no more
     ∷ session (record {
       setup = board 2 3 2 6;
+      account = account 0 0 0 0;
       before = read 0 6 ∷ read 1 6 ∷ write 1 9 5 ∷ write 0 7 1 ∷ [];
-      account = account 4 0 0 0;
       requests = write 0 6 2 ∷ [];
       values = 2 ∷ [];
       answer = answered 1 0 0;
       cost = cost 0 0 1;
+      left = account 5 6 0 2;
       changes = true;
       lines = copy 0 3 2 0 (2 ∷ 1 ∷ []) ∷ copy 4 4 2 1 (0 ∷ 5 ∷ []) ∷ [];
       memory = cell 6 2 ∷ cell 7 1 ∷ [];
@@ -750,12 +808,13 @@ rows =
     -- one processor: no other holder, ever
     ∷ session (record {
       setup = board 1 1 2 2;
-      before = [];
       account = account 0 0 0 0;
+      before = [];
       requests = read 0 3 ∷ write 0 3 4 ∷ write 0 2 5 ∷ [];
       values = 0 ∷ 4 ∷ 5 ∷ [];
       answer = answered 3 0 0;
       cost = cost 2 0 0;
+      left = account 3 2 0 0;
       changes = true;
       lines = copy 0 1 2 1 (5 ∷ 4 ∷ []) ∷ [];
       memory = [];
@@ -763,15 +822,128 @@ rows =
     -- more lines than blocks
     ∷ session (record {
       setup = board 2 5 2 3;
+      account = account 0 0 0 0;
       before = write 1 5 3 ∷ [];
-      account = account 1 0 0 0;
       requests = read 0 5 ∷ write 0 4 2 ∷ write 0 4 1 ∷ [];
       values = 3 ∷ 2 ∷ 1 ∷ [];
       answer = answered 3 0 0;
       cost = cost 2 0 2;
+      left = account 4 4 0 2;
       changes = true;
       lines = copy 2 2 2 0 (1 ∷ 3 ∷ []) ∷ [];
       memory = cell 4 1 ∷ cell 5 3 ∷ [];
+    })
+    -- the payer is the lowest-numbered other holder, whatever the counters: others with 4 and 2
+    ∷ session (record {
+      setup = usual;
+      account = account 0 0 0 0;
+      before = read 0 39 ∷ read 1 39 ∷ read 2 39 ∷ write 0 38 6 ∷ write 0 37 5 ∷ [];
+      requests = write 2 36 3 ∷ [];
+      values = 3 ∷ [];
+      answer = answered 1 0 0;
+      cost = cost 0 0 1;
+      left = account 6 12 0 3;
+      changes = true;
+      lines = copy 1 9 3 0 (3 ∷ 5 ∷ 6 ∷ 0 ∷ []) ∷ copy 9 9 2 0 (3 ∷ 5 ∷ 6 ∷ 0 ∷ []) ∷ copy 17 9 4 0 (3 ∷ 5 ∷ 6 ∷ 0 ∷ []) ∷ [];
+      memory = cell 36 3 ∷ cell 37 5 ∷ cell 38 6 ∷ [];
+    })
+    -- others with 2 and 4
+    ∷ session (record {
+      setup = usual;
+      account = account 0 0 0 0;
+      before = read 0 39 ∷ read 1 39 ∷ read 2 39 ∷ write 1 38 6 ∷ write 1 37 5 ∷ [];
+      requests = write 2 36 3 ∷ [];
+      values = 3 ∷ [];
+      answer = answered 1 0 0;
+      cost = cost 0 0 1;
+      left = account 6 12 0 3;
+      changes = true;
+      lines = copy 1 9 1 0 (3 ∷ 5 ∷ 6 ∷ 0 ∷ []) ∷ copy 9 9 4 0 (3 ∷ 5 ∷ 6 ∷ 0 ∷ []) ∷ copy 17 9 4 0 (3 ∷ 5 ∷ 6 ∷ 0 ∷ []) ∷ [];
+      memory = cell 36 3 ∷ cell 37 5 ∷ cell 38 6 ∷ [];
+    })
+    -- others with 4 and 1
+    ∷ session (record {
+      setup = usual;
+      account = account 0 0 0 0;
+      before = read 0 39 ∷ read 1 39 ∷ read 2 39 ∷ write 0 38 6 ∷ write 0 37 5 ∷ write 0 39 4 ∷ [];
+      requests = write 2 36 3 ∷ [];
+      values = 3 ∷ [];
+      answer = answered 1 0 0;
+      cost = cost 0 0 1;
+      left = account 7 12 0 4;
+      changes = true;
+      lines = copy 1 9 3 0 (3 ∷ 5 ∷ 6 ∷ 4 ∷ []) ∷ copy 9 9 1 0 (3 ∷ 5 ∷ 6 ∷ 4 ∷ []) ∷ copy 17 9 4 0 (3 ∷ 5 ∷ 6 ∷ 4 ∷ []) ∷ [];
+      memory = cell 36 3 ∷ cell 37 5 ∷ cell 38 6 ∷ cell 39 4 ∷ [];
+    })
+    -- others with 1 and 4: the payer's line becomes empty
+    ∷ session (record {
+      setup = usual;
+      account = account 0 0 0 0;
+      before = read 0 39 ∷ read 1 39 ∷ read 2 39 ∷ write 1 38 6 ∷ write 1 37 5 ∷ write 1 39 4 ∷ [];
+      requests = write 2 36 3 ∷ [];
+      values = 3 ∷ [];
+      answer = answered 1 0 0;
+      cost = cost 0 0 1;
+      left = account 7 12 0 4;
+      changes = true;
+      lines = copy 9 9 4 0 (3 ∷ 5 ∷ 6 ∷ 4 ∷ []) ∷ copy 17 9 4 0 (3 ∷ 5 ∷ 6 ∷ 4 ∷ []) ∷ [];
+      memory = cell 36 3 ∷ cell 37 5 ∷ cell 38 6 ∷ cell 39 4 ∷ [];
+    })
+    -- a fetch of block 1 leaves block 9, marked in the same line elsewhere, as it is
+    ∷ session (record {
+      setup = usual;
+      account = account 0 0 0 0;
+      before = write 1 37 6 ∷ [];
+      requests = read 0 5 ∷ [];
+      values = 0 ∷ [];
+      answer = answered 1 0 0;
+      cost = cost 4 0 0;
+      left = account 2 8 0 0;
+      changes = true;
+      lines = copy 1 1 4 0 (0 ∷ 0 ∷ 0 ∷ 0 ∷ []) ∷ copy 9 9 4 1 (0 ∷ 6 ∷ 0 ∷ 0 ∷ []) ∷ [];
+      memory = [];
+    })
+    -- the owner is the processor that has this block marked, not one that has another block of the line marked
+    ∷ session (record {
+      setup = usual;
+      account = account 0 0 0 0;
+      before = write 0 37 6 ∷ write 2 5 3 ∷ [];
+      requests = read 1 5 ∷ [];
+      values = 3 ∷ [];
+      answer = answered 1 0 0;
+      cost = cost 4 0 0;
+      left = account 3 12 0 0;
+      changes = true;
+      lines = copy 1 9 4 1 (0 ∷ 6 ∷ 0 ∷ 0 ∷ []) ∷ copy 9 1 4 0 (0 ∷ 3 ∷ 0 ∷ 0 ∷ []) ∷ copy 17 1 4 0 (0 ∷ 3 ∷ 0 ∷ 0 ∷ []) ∷ [];
+      memory = cell 5 3 ∷ [];
+    })
+    -- a miss into an empty line writes nothing back to block 0
+    ∷ session (record {
+      setup = usual;
+      account = account 0 0 0 0;
+      before = read 0 0 ∷ write 0 0 7 ∷ read 1 0 ∷ [];
+      requests = read 2 0 ∷ [];
+      values = 7 ∷ [];
+      answer = answered 1 0 0;
+      cost = cost 4 0 0;
+      left = account 4 12 0 0;
+      changes = true;
+      lines = copy 0 0 4 0 (7 ∷ 0 ∷ 0 ∷ 0 ∷ []) ∷ copy 8 0 4 0 (7 ∷ 0 ∷ 0 ∷ 0 ∷ []) ∷ copy 16 0 4 0 (7 ∷ 0 ∷ 0 ∷ 0 ∷ []) ∷ [];
+      memory = cell 0 7 ∷ [];
+    })
+    -- more processors than lines: the owner and the payer are processor 3
+    ∷ session (record {
+      setup = board 4 2 2 6;
+      account = account 0 0 0 0;
+      before = write 3 5 6 ∷ read 2 5 ∷ [];
+      requests = write 2 4 1 ∷ [];
+      values = 1 ∷ [];
+      answer = answered 1 0 0;
+      cost = cost 0 0 1;
+      left = account 3 4 0 1;
+      changes = true;
+      lines = copy 4 2 2 0 (1 ∷ 6 ∷ []) ∷ copy 6 2 1 0 (1 ∷ 6 ∷ []) ∷ [];
+      memory = cell 4 1 ∷ cell 5 6 ∷ [];
     })
     -- sound tables
     ∷ tabled (board 2 2 2 5) (tables (4 ∷ 3 ∷ 4 ∷ 0 ∷ []) (1 ∷ 2 ∷ 2 ∷ 0 ∷ []) (0 ∷ 1 ∷ 0 ∷ 0 ∷ [])
@@ -989,9 +1161,45 @@ rows =
       block = 3;
       seen = [];
     })
+    -- 2: block numbers too short
+    ∷ lent (record {
+      setup = board 2 2 2 5;
+      tables = tables (4 ∷ 3 ∷ 4 ∷ []) (1 ∷ 2 ∷ 2 ∷ 0 ∷ []) (0 ∷ 1 ∷ 0 ∷ 0 ∷ []) (8 ∷ 9 ∷ 5 ∷ 6 ∷ 8 ∷ 9 ∷ 0 ∷ 0 ∷ []) (0 ∷ 0 ∷ 0 ∷ 0 ∷ 0 ∷ 0 ∷ 7 ∷ 7 ∷ 8 ∷ 9 ∷ []);
+      account = account 3 0 0 0;
+      values = 9 ∷ [];
+      runRefusal = 2;
+      startRefusal = 2;
+      processor = 0;
+      block = 3;
+      seen = [];
+    })
+    -- 2: counters too long
+    ∷ lent (record {
+      setup = board 2 2 2 5;
+      tables = tables (4 ∷ 3 ∷ 4 ∷ 0 ∷ []) (1 ∷ 2 ∷ 2 ∷ 0 ∷ 0 ∷ []) (0 ∷ 1 ∷ 0 ∷ 0 ∷ []) (8 ∷ 9 ∷ 5 ∷ 6 ∷ 8 ∷ 9 ∷ 0 ∷ 0 ∷ []) (0 ∷ 0 ∷ 0 ∷ 0 ∷ 0 ∷ 0 ∷ 7 ∷ 7 ∷ 8 ∷ 9 ∷ []);
+      account = account 3 0 0 0;
+      values = 9 ∷ [];
+      runRefusal = 2;
+      startRefusal = 2;
+      processor = 0;
+      block = 3;
+      seen = [];
+    })
+    -- 2: words too long
+    ∷ lent (record {
+      setup = board 2 2 2 5;
+      tables = tables (4 ∷ 3 ∷ 4 ∷ 0 ∷ []) (1 ∷ 2 ∷ 2 ∷ 0 ∷ []) (0 ∷ 1 ∷ 0 ∷ 0 ∷ []) (8 ∷ 9 ∷ 5 ∷ 6 ∷ 8 ∷ 9 ∷ 0 ∷ 0 ∷ 0 ∷ []) (0 ∷ 0 ∷ 0 ∷ 0 ∷ 0 ∷ 0 ∷ 7 ∷ 7 ∷ 8 ∷ 9 ∷ []);
+      account = account 3 0 0 0;
+      values = 9 ∷ [];
+      runRefusal = 2;
+      startRefusal = 2;
+      processor = 0;
+      block = 3;
+      seen = [];
+    })
     -- a lone write costs 0 and marks
     ∷ quote (record {
-      setup = board 2 2 3 5;
+      setup = small;
       requests = write 1 10 5 ∷ [];
       entries = fetchEntry 1 3 ∷ Complete ∷ [];
       number = 0;
@@ -1002,20 +1210,10 @@ rows =
       marks = 0 ∷ 0 ∷ 0 ∷ 1 ∷ [];
     })
     -- mistake 6: a drop of the last current copy is refused
-    ∷ quote (record {
-      setup = board 2 2 3 5;
-      requests = write 1 10 5 ∷ [];
-      entries = fetchEntry 1 3 ∷ Complete ∷ dropEntry 1 3 ∷ [];
-      number = 25;
-      place = 2;
-      cost = 0;
-      blocks = 0 ∷ 0 ∷ 0 ∷ 0 ∷ [];
-      held = 0 ∷ 0 ∷ 0 ∷ 0 ∷ [];
-      marks = 0 ∷ 0 ∷ 0 ∷ 0 ∷ [];
-    })
+    ∷ refusedAt small (write 1 10 5 ∷ []) (fetchEntry 1 3 ∷ Complete ∷ dropEntry 1 3 ∷ []) 25 2
     -- a write-back clears the mark, then the drop is free and leaves an empty line
     ∷ quote (record {
-      setup = board 2 2 3 5;
+      setup = small;
       requests = write 1 10 5 ∷ [];
       entries = fetchEntry 1 3 ∷ Complete ∷ writeBackEntry 1 3 ∷ dropEntry 1 3 ∷ [];
       number = 0;
@@ -1027,7 +1225,7 @@ rows =
     })
     -- a write-back keeps the copy
     ∷ quote (record {
-      setup = board 2 2 3 5;
+      setup = small;
       requests = write 1 10 5 ∷ [];
       entries = fetchEntry 1 3 ∷ Complete ∷ writeBackEntry 1 3 ∷ [];
       number = 0;
@@ -1039,7 +1237,7 @@ rows =
     })
     -- a fetch clears the mark elsewhere, and its own copy is unmarked
     ∷ quote (record {
-      setup = board 2 2 3 5;
+      setup = small;
       requests = write 1 10 5 ∷ [];
       entries = fetchEntry 1 3 ∷ Complete ∷ fetchEntry 0 3 ∷ [];
       number = 0;
@@ -1051,7 +1249,7 @@ rows =
     })
     -- a fetch leaves the marks of other blocks
     ∷ quote (record {
-      setup = board 2 2 3 5;
+      setup = small;
       requests = write 1 10 5 ∷ [];
       entries = fetchEntry 1 3 ∷ Complete ∷ fetchEntry 0 1 ∷ fetchEntry 1 4 ∷ [];
       number = 0;
@@ -1063,7 +1261,7 @@ rows =
     })
     -- a fetch leaves the mark of another block of the same line elsewhere
     ∷ quote (record {
-      setup = board 2 2 3 5;
+      setup = small;
       requests = write 0 4 5 ∷ [];
       entries = fetchEntry 0 1 ∷ Complete ∷ fetchEntry 1 3 ∷ [];
       number = 0;
@@ -1075,7 +1273,7 @@ rows =
     })
     -- a shared write costs 1 and marks nothing
     ∷ quote (record {
-      setup = board 2 2 3 5;
+      setup = small;
       requests = write 1 10 5 ∷ [];
       entries = fetchEntry 1 3 ∷ fetchEntry 0 3 ∷ Complete ∷ [];
       number = 0;
@@ -1087,7 +1285,7 @@ rows =
     })
     -- by broadcast a lone write costs 1, and an unmarked block stays unmarked
     ∷ quote (record {
-      setup = board 2 2 3 5;
+      setup = small;
       requests = write 1 10 5 ∷ [];
       entries = fetchEntry 1 3 ∷ CompleteByBroadcast ∷ [];
       number = 0;
@@ -1099,7 +1297,7 @@ rows =
     })
     -- by broadcast a marked block stays marked
     ∷ quote (record {
-      setup = board 2 2 3 5;
+      setup = small;
       requests = write 1 10 5 ∷ write 1 10 5 ∷ [];
       entries = fetchEntry 1 3 ∷ Complete ∷ CompleteByBroadcast ∷ [];
       number = 0;
@@ -1111,7 +1309,7 @@ rows =
     })
     -- a read costs 0 and marks nothing
     ∷ quote (record {
-      setup = board 2 2 3 5;
+      setup = small;
       requests = read 1 10 ∷ [];
       entries = fetchEntry 1 3 ∷ Complete ∷ [];
       number = 0;
@@ -1123,7 +1321,7 @@ rows =
     })
     -- a write-back of an unmarked block costs as much; entries after the last completion
     ∷ quote (record {
-      setup = board 2 2 3 5;
+      setup = small;
       requests = [];
       entries = fetchEntry 0 4 ∷ writeBackEntry 0 4 ∷ [];
       number = 0;
@@ -1135,7 +1333,7 @@ rows =
     })
     -- the empty schedule, for no request
     ∷ quote (record {
-      setup = board 2 2 3 5;
+      setup = small;
       requests = [];
       entries = [];
       number = 0;
@@ -1147,7 +1345,7 @@ rows =
     })
     -- a dropped line can be fetched into
     ∷ quote (record {
-      setup = board 2 2 3 5;
+      setup = small;
       requests = [];
       entries = fetchEntry 1 3 ∷ dropEntry 1 3 ∷ fetchEntry 1 1 ∷ [];
       number = 0;
@@ -1158,137 +1356,27 @@ rows =
       marks = 0 ∷ 0 ∷ 0 ∷ 0 ∷ [];
     })
     -- 23: a fetch into a line in use, even of the same block
-    ∷ quote (record {
-      setup = board 2 2 3 5;
-      requests = [];
-      entries = fetchEntry 1 3 ∷ fetchEntry 1 3 ∷ [];
-      number = 23;
-      place = 1;
-      cost = 0;
-      blocks = 0 ∷ 0 ∷ 0 ∷ 0 ∷ [];
-      held = 0 ∷ 0 ∷ 0 ∷ 0 ∷ [];
-      marks = 0 ∷ 0 ∷ 0 ∷ 0 ∷ [];
-    })
+    ∷ refusedAt small [] (fetchEntry 1 3 ∷ fetchEntry 1 3 ∷ []) 23 1
     -- 24: a drop of another block of the line
-    ∷ quote (record {
-      setup = board 2 2 3 5;
-      requests = [];
-      entries = fetchEntry 1 3 ∷ dropEntry 1 1 ∷ [];
-      number = 24;
-      place = 1;
-      cost = 0;
-      blocks = 0 ∷ 0 ∷ 0 ∷ 0 ∷ [];
-      held = 0 ∷ 0 ∷ 0 ∷ 0 ∷ [];
-      marks = 0 ∷ 0 ∷ 0 ∷ 0 ∷ [];
-    })
+    ∷ refusedAt small [] (fetchEntry 1 3 ∷ dropEntry 1 1 ∷ []) 24 1
     -- 24: a write-back of a block that another holds
-    ∷ quote (record {
-      setup = board 2 2 3 5;
-      requests = [];
-      entries = fetchEntry 1 3 ∷ writeBackEntry 0 3 ∷ [];
-      number = 24;
-      place = 1;
-      cost = 0;
-      blocks = 0 ∷ 0 ∷ 0 ∷ 0 ∷ [];
-      held = 0 ∷ 0 ∷ 0 ∷ 0 ∷ [];
-      marks = 0 ∷ 0 ∷ 0 ∷ 0 ∷ [];
-    })
+    ∷ refusedAt small [] (fetchEntry 1 3 ∷ writeBackEntry 0 3 ∷ []) 24 1
     -- 3 before 8
-    ∷ quote (record {
-      setup = board 2 2 3 5;
-      requests = [];
-      entries = fetchEntry 1 3 ∷ fetchEntry 2 5 ∷ [];
-      number = 3;
-      place = 1;
-      cost = 0;
-      blocks = 0 ∷ 0 ∷ 0 ∷ 0 ∷ [];
-      held = 0 ∷ 0 ∷ 0 ∷ 0 ∷ [];
-      marks = 0 ∷ 0 ∷ 0 ∷ 0 ∷ [];
-    })
+    ∷ refusedAt small [] (fetchEntry 1 3 ∷ fetchEntry 2 5 ∷ []) 3 1
     -- 8 before 24
-    ∷ quote (record {
-      setup = board 2 2 3 5;
-      requests = [];
-      entries = dropEntry 0 5 ∷ [];
-      number = 8;
-      place = 0;
-      cost = 0;
-      blocks = 0 ∷ 0 ∷ 0 ∷ 0 ∷ [];
-      held = 0 ∷ 0 ∷ 0 ∷ 0 ∷ [];
-      marks = 0 ∷ 0 ∷ 0 ∷ 0 ∷ [];
-    })
+    ∷ refusedAt small [] (dropEntry 0 5 ∷ []) 8 0
     -- 26 with no request left
-    ∷ quote (record {
-      setup = board 2 2 3 5;
-      requests = write 1 10 5 ∷ [];
-      entries = fetchEntry 1 3 ∷ Complete ∷ CompleteByBroadcast ∷ [];
-      number = 26;
-      place = 2;
-      cost = 0;
-      blocks = 0 ∷ 0 ∷ 0 ∷ 0 ∷ [];
-      held = 0 ∷ 0 ∷ 0 ∷ 0 ∷ [];
-      marks = 0 ∷ 0 ∷ 0 ∷ 0 ∷ [];
-    })
+    ∷ refusedAt small (write 1 10 5 ∷ []) (fetchEntry 1 3 ∷ Complete ∷ CompleteByBroadcast ∷ []) 26 2
     -- 3 before 4 at a completion
-    ∷ quote (record {
-      setup = board 2 2 3 5;
-      requests = read 2 15 ∷ [];
-      entries = fetchEntry 1 3 ∷ Complete ∷ [];
-      number = 3;
-      place = 1;
-      cost = 0;
-      blocks = 0 ∷ 0 ∷ 0 ∷ 0 ∷ [];
-      held = 0 ∷ 0 ∷ 0 ∷ 0 ∷ [];
-      marks = 0 ∷ 0 ∷ 0 ∷ 0 ∷ [];
-    })
+    ∷ refusedAt small (read 2 15 ∷ []) (fetchEntry 1 3 ∷ Complete ∷ []) 3 1
     -- 4 before 9
-    ∷ quote (record {
-      setup = board 2 2 3 5;
-      requests = read 0 15 ∷ [];
-      entries = CompleteByBroadcast ∷ [];
-      number = 4;
-      place = 0;
-      cost = 0;
-      blocks = 0 ∷ 0 ∷ 0 ∷ 0 ∷ [];
-      held = 0 ∷ 0 ∷ 0 ∷ 0 ∷ [];
-      marks = 0 ∷ 0 ∷ 0 ∷ 0 ∷ [];
-    })
+    ∷ refusedAt small (read 0 15 ∷ []) (CompleteByBroadcast ∷ []) 4 0
     -- 9 before 27
-    ∷ quote (record {
-      setup = board 2 2 3 5;
-      requests = read 0 10 ∷ [];
-      entries = CompleteByBroadcast ∷ [];
-      number = 9;
-      place = 0;
-      cost = 0;
-      blocks = 0 ∷ 0 ∷ 0 ∷ 0 ∷ [];
-      held = 0 ∷ 0 ∷ 0 ∷ 0 ∷ [];
-      marks = 0 ∷ 0 ∷ 0 ∷ 0 ∷ [];
-    })
+    ∷ refusedAt small (read 0 10 ∷ []) (CompleteByBroadcast ∷ []) 9 0
     -- 27: another holds the block
-    ∷ quote (record {
-      setup = board 2 2 3 5;
-      requests = read 0 10 ∷ [];
-      entries = fetchEntry 1 3 ∷ Complete ∷ [];
-      number = 27;
-      place = 1;
-      cost = 0;
-      blocks = 0 ∷ 0 ∷ 0 ∷ 0 ∷ [];
-      held = 0 ∷ 0 ∷ 0 ∷ 0 ∷ [];
-      marks = 0 ∷ 0 ∷ 0 ∷ 0 ∷ [];
-    })
+    ∷ refusedAt small (read 0 10 ∷ []) (fetchEntry 1 3 ∷ Complete ∷ []) 27 1
     -- 28: at the schedule's length
-    ∷ quote (record {
-      setup = board 2 2 3 5;
-      requests = write 1 10 5 ∷ [];
-      entries = fetchEntry 1 3 ∷ [];
-      number = 28;
-      place = 1;
-      cost = 0;
-      blocks = 0 ∷ 0 ∷ 0 ∷ 0 ∷ [];
-      held = 0 ∷ 0 ∷ 0 ∷ 0 ∷ [];
-      marks = 0 ∷ 0 ∷ 0 ∷ 0 ∷ [];
-    })
+    ∷ refusedAt small (write 1 10 5 ∷ []) (fetchEntry 1 3 ∷ []) 28 1
     -- 1: tables untouched
     ∷ quote (record {
       setup = board 2 2 17 5;
@@ -1301,4 +1389,194 @@ rows =
       held = 7 ∷ 7 ∷ 7 ∷ 7 ∷ [];
       marks = 7 ∷ 7 ∷ 7 ∷ 7 ∷ [];
     })
+    -- a write that a higher processor shares costs 1 and marks nothing
+    ∷ quote (record {
+      setup = small;
+      requests = write 0 10 5 ∷ [];
+      entries = fetchEntry 0 3 ∷ fetchEntry 1 3 ∷ Complete ∷ [];
+      number = 0;
+      place = 0;
+      cost = 7;
+      blocks = 0 ∷ 3 ∷ 0 ∷ 3 ∷ [];
+      held = 0 ∷ 1 ∷ 0 ∷ 1 ∷ [];
+      marks = 0 ∷ 0 ∷ 0 ∷ 0 ∷ [];
+    })
+    -- a read of a shared block costs 0
+    ∷ quote (record {
+      setup = small;
+      requests = read 1 10 ∷ [];
+      entries = fetchEntry 1 3 ∷ fetchEntry 0 3 ∷ Complete ∷ [];
+      number = 0;
+      place = 0;
+      cost = 6;
+      blocks = 0 ∷ 3 ∷ 0 ∷ 3 ∷ [];
+      held = 0 ∷ 1 ∷ 0 ∷ 1 ∷ [];
+      marks = 0 ∷ 0 ∷ 0 ∷ 0 ∷ [];
+    })
+    -- more processors than lines: processor 2's mark clears
+    ∷ quote (record {
+      setup = board 3 1 3 5;
+      requests = write 2 1 5 ∷ [];
+      entries = fetchEntry 2 0 ∷ Complete ∷ fetchEntry 0 0 ∷ [];
+      number = 0;
+      place = 0;
+      cost = 6;
+      blocks = 0 ∷ 0 ∷ 0 ∷ [];
+      held = 1 ∷ 0 ∷ 1 ∷ [];
+      marks = 0 ∷ 0 ∷ 0 ∷ [];
+    })
+    -- a shared write costs 1, whether one other holds the block
+    ∷ quote (record {
+      setup = board 3 2 3 5;
+      requests = write 2 10 5 ∷ [];
+      entries = fetchEntry 0 3 ∷ fetchEntry 2 3 ∷ Complete ∷ [];
+      number = 0;
+      place = 0;
+      cost = 7;
+      blocks = 0 ∷ 3 ∷ 0 ∷ 0 ∷ 0 ∷ 3 ∷ [];
+      held = 0 ∷ 1 ∷ 0 ∷ 0 ∷ 0 ∷ 1 ∷ [];
+      marks = 0 ∷ 0 ∷ 0 ∷ 0 ∷ 0 ∷ 0 ∷ [];
+    })
+    -- or two others do
+    ∷ quote (record {
+      setup = board 3 2 3 5;
+      requests = write 1 10 5 ∷ [];
+      entries = fetchEntry 0 3 ∷ fetchEntry 1 3 ∷ fetchEntry 2 3 ∷ Complete ∷ [];
+      number = 0;
+      place = 0;
+      cost = 10;
+      blocks = 0 ∷ 3 ∷ 0 ∷ 3 ∷ 0 ∷ 3 ∷ [];
+      held = 0 ∷ 1 ∷ 0 ∷ 1 ∷ 0 ∷ 1 ∷ [];
+      marks = 0 ∷ 0 ∷ 0 ∷ 0 ∷ 0 ∷ 0 ∷ [];
+    })
+    -- by broadcast a write costs 1, with two holders
+    ∷ quote (record {
+      setup = board 3 2 3 5;
+      requests = write 2 10 5 ∷ [];
+      entries = fetchEntry 0 3 ∷ fetchEntry 2 3 ∷ CompleteByBroadcast ∷ [];
+      number = 0;
+      place = 0;
+      cost = 7;
+      blocks = 0 ∷ 3 ∷ 0 ∷ 0 ∷ 0 ∷ 3 ∷ [];
+      held = 0 ∷ 1 ∷ 0 ∷ 0 ∷ 0 ∷ 1 ∷ [];
+      marks = 0 ∷ 0 ∷ 0 ∷ 0 ∷ 0 ∷ 0 ∷ [];
+    })
+    -- and with three
+    ∷ quote (record {
+      setup = board 3 2 3 5;
+      requests = write 1 10 5 ∷ [];
+      entries = fetchEntry 0 3 ∷ fetchEntry 1 3 ∷ fetchEntry 2 3 ∷ CompleteByBroadcast ∷ [];
+      number = 0;
+      place = 0;
+      cost = 10;
+      blocks = 0 ∷ 3 ∷ 0 ∷ 3 ∷ 0 ∷ 3 ∷ [];
+      held = 0 ∷ 1 ∷ 0 ∷ 1 ∷ 0 ∷ 1 ∷ [];
+      marks = 0 ∷ 0 ∷ 0 ∷ 0 ∷ 0 ∷ 0 ∷ [];
+    })
+    -- a write is shared by holders of its block alone, not of its line
+    ∷ quote (record {
+      setup = board 3 2 3 5;
+      requests = write 1 10 5 ∷ [];
+      entries = fetchEntry 0 1 ∷ fetchEntry 1 3 ∷ fetchEntry 2 1 ∷ Complete ∷ [];
+      number = 0;
+      place = 0;
+      cost = 9;
+      blocks = 0 ∷ 1 ∷ 0 ∷ 3 ∷ 0 ∷ 1 ∷ [];
+      held = 0 ∷ 1 ∷ 0 ∷ 1 ∷ 0 ∷ 1 ∷ [];
+      marks = 0 ∷ 0 ∷ 0 ∷ 1 ∷ 0 ∷ 0 ∷ [];
+    })
+    -- a fetch clears this block's mark at any processor, and no other mark of the line
+    ∷ quote (record {
+      setup = board 3 2 3 5;
+      requests = write 2 10 5 ∷ write 1 4 5 ∷ [];
+      entries = fetchEntry 2 3 ∷ Complete ∷ fetchEntry 1 1 ∷ Complete ∷ fetchEntry 0 3 ∷ [];
+      number = 0;
+      place = 0;
+      cost = 9;
+      blocks = 0 ∷ 3 ∷ 0 ∷ 1 ∷ 0 ∷ 3 ∷ [];
+      held = 0 ∷ 1 ∷ 0 ∷ 1 ∷ 0 ∷ 1 ∷ [];
+      marks = 0 ∷ 0 ∷ 0 ∷ 1 ∷ 0 ∷ 0 ∷ [];
+    })
+    -- a write-back clears that mark alone, and costs p
+    ∷ quote (record {
+      setup = board 3 2 3 5;
+      requests = write 0 10 5 ∷ write 0 6 5 ∷ write 1 4 5 ∷ [];
+      entries = fetchEntry 0 3 ∷ Complete ∷ fetchEntry 0 2 ∷ Complete ∷ fetchEntry 1 1 ∷ Complete ∷ writeBackEntry 0 3 ∷ [];
+      number = 0;
+      place = 0;
+      cost = 12;
+      blocks = 2 ∷ 3 ∷ 0 ∷ 1 ∷ 0 ∷ 0 ∷ [];
+      held = 1 ∷ 1 ∷ 0 ∷ 1 ∷ 0 ∷ 0 ∷ [];
+      marks = 1 ∷ 0 ∷ 0 ∷ 1 ∷ 0 ∷ 0 ∷ [];
+    })
+    -- a drop empties that line alone
+    ∷ quote (record {
+      setup = board 3 2 3 5;
+      requests = [];
+      entries = fetchEntry 0 3 ∷ fetchEntry 0 2 ∷ fetchEntry 1 1 ∷ dropEntry 0 3 ∷ [];
+      number = 0;
+      place = 0;
+      cost = 9;
+      blocks = 2 ∷ 0 ∷ 0 ∷ 1 ∷ 0 ∷ 0 ∷ [];
+      held = 1 ∷ 0 ∷ 0 ∷ 1 ∷ 0 ∷ 0 ∷ [];
+      marks = 0 ∷ 0 ∷ 0 ∷ 0 ∷ 0 ∷ 0 ∷ [];
+    })
+    -- 23: the line holds another block
+    ∷ refusedAt small [] (fetchEntry 1 3 ∷ fetchEntry 1 1 ∷ []) 23 1
+    -- 24: a write-back where the line holds another block, a marked one
+    ∷ refusedAt small (write 1 10 5 ∷ []) (fetchEntry 1 3 ∷ Complete ∷ writeBackEntry 1 1 ∷ []) 24 2
+    -- 24: a write-back where the line holds another block, an unmarked one
+    ∷ refusedAt small [] (fetchEntry 1 3 ∷ writeBackEntry 1 1 ∷ []) 24 1
+    -- 24: a write-back where the line is empty
+    ∷ refusedAt small [] (writeBackEntry 1 1 ∷ []) 24 0
+    -- 24: a drop where the line is empty
+    ∷ refusedAt small [] (dropEntry 1 0 ∷ []) 24 0
+    -- 24 before 25: a drop of another block of a marked line
+    ∷ refusedAt small (write 1 10 5 ∷ []) (fetchEntry 1 3 ∷ Complete ∷ dropEntry 1 1 ∷ []) 24 2
+    -- 27: the line holds another block
+    ∷ refusedAt small (read 1 4 ∷ []) (fetchEntry 1 3 ∷ Complete ∷ []) 27 1
+    -- 27: by broadcast too
+    ∷ refusedAt small (write 1 4 5 ∷ []) (fetchEntry 1 3 ∷ CompleteByBroadcast ∷ []) 27 1
+    -- 27: an empty line is no copy of block 0
+    ∷ refusedAt small (read 1 1 ∷ []) (Complete ∷ []) 27 0
+    -- 3 at a write-back, and before 8
+    ∷ refusedAt small [] (fetchEntry 1 3 ∷ writeBackEntry 2 5 ∷ []) 3 1
+    -- 3 at a drop
+    ∷ refusedAt small [] (fetchEntry 1 3 ∷ dropEntry 2 3 ∷ []) 3 1
+    -- 8 at a write-back
+    ∷ refusedAt small [] (fetchEntry 1 3 ∷ writeBackEntry 1 5 ∷ []) 8 1
+    -- 8 before 23
+    ∷ refusedAt small [] (fetchEntry 1 3 ∷ fetchEntry 1 5 ∷ []) 8 1
+    -- 26 before 28: a completion too many refuses at its place
+    ∷ refusedAt small [] (Complete ∷ []) 26 0
+    -- 9: a read of a held block
+    ∷ refusedAt small (read 1 10 ∷ []) (fetchEntry 1 3 ∷ CompleteByBroadcast ∷ []) 9 1
+    -- 4 at a completion
+    ∷ refusedAt small (write 1 15 5 ∷ []) (fetchEntry 1 3 ∷ Complete ∷ []) 4 1
+    -- 1: N 8, L 64, p 16 and M 256 are taken
+    ∷ checked (board 8 64 16 256) 512 512 512 0 0 0
+    -- 1: each number one too high, or 0
+    ∷ checked (board 9 1 1 1) 9 9 9 0 0 1
+    ∷ checked (board 1 65 1 1) 65 65 65 0 0 1
+    ∷ checked (board 1 1 17 1) 1 1 1 0 0 1
+    ∷ checked (board 1 1 1 257) 1 1 1 0 0 1
+    ∷ checked (board 0 1 1 1) 0 0 0 0 0 1
+    ∷ checked (board 1 0 1 1) 0 0 0 0 0 1
+    ∷ checked (board 1 1 0 1) 1 1 1 0 0 1
+    ∷ checked (board 1 1 1 0) 1 1 1 0 0 1
+    -- 5 at its limits
+    ∷ checked small 4 4 4 4000000 1000000 0
+    ∷ checked small 4 4 4 4000001 1000000 5
+    ∷ checked small 4 4 4 4000000 1000001 5
+    -- 2 before 5, 1 before 2
+    ∷ checked small 4 4 5 4000001 0 2
+    ∷ checked small 4 3 4 0 1000001 2
+    ∷ checked (board 9 2 2 5) 4 4 5 4000001 0 1
+    -- 2: each table too short or too long
+    ∷ checked small 3 4 4 0 0 2
+    ∷ checked small 5 4 4 0 0 2
+    ∷ checked small 4 3 4 0 0 2
+    ∷ checked small 4 5 4 0 0 2
+    ∷ checked small 4 4 3 0 0 2
+    ∷ checked small 4 4 5 0 0 2
     ∷ []
