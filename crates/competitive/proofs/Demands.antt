@@ -1,4 +1,4 @@
--- The demands hold of every setup that is not refused.
+-- The demands hold of every setup that is not refused (`demands`); a run that is refused at once adds nothing, whatever the setup (`refused-at-once`, proofs/RefusedAtOnce).
 use mathlib.Core.Path.{_≡_}
 use Rattle.protocol_types.specs.Refusals.{noRefusal}
 use Rattle.protocol_types.specs.Board.{setupRefusal}
@@ -7,12 +7,13 @@ use Rattle.protocol_types.specs.declared.Setup.{Setup}
 use Rattle.competitive.proofs.Claim.{claim}
 use Rattle.competitive.proofs.Tight.{tight-list}
 use Rattle.competitive.proofs.LastValues.{last-values}
-use Rattle.competitive.proofs.Priced.{priced-right}
+use Rattle.competitive.proofs.Priced.{judged-right, priced-right}
 use Rattle.competitive.proofs.EngineSchedule.{runs-rival}
 
 pub demands : (s : Setup) → setupRefusal s ≡ noRefusal → Demands s
 demands s accepted = record {
   last-values = last-values s accepted;
+  judged-right = judged-right s;
   priced-right = priced-right s;
   demand3 = record { bounded = claim s accepted; tight = tight-list s accepted };
   engine-is-rival = λ a p rs. runs-rival s accepted (a .requests) rs;

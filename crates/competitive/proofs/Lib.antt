@@ -9,7 +9,9 @@ pub mod Values
 pub mod Lawful
 pub mod Claim
 pub mod Tight
+pub mod Shown
 pub mod Priced
 pub mod LastValues
 pub mod EngineSchedule
+pub mod RefusedAtOnce
 pub mod Demands

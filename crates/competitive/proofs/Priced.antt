@@ -1,6 +1,6 @@
 -- The pricer accepts exactly the legal schedules, at their cost, and shows the rival's last copies.
 use Prim.Native.Nat.{ℕ, _+_}
-use mathlib.Core.Path.{_≡_, refl, sym, ap, _∙_}
+use mathlib.Core.Path.{_≡_, refl, sym, ap, subst, _∙_}
 use mathlib.Core.Bool.{Bool, true, false, cond, true≢false}
 use mathlib.Core.List.{List, [], _∷_}
 use native.Mathlib.Omega.{arith}
@@ -11,13 +11,16 @@ use Rattle.protocol_types.specs.Refusals.{noRefusal}
 use Rattle.protocol.specs.Accounts.{nothing, plus, cycles}
 use Rattle.protocol.specs.Rival.{Rival, noCopies, played, left, cost, refusal, Legal, costs, lastCopies}
 use Rattle.protocol.specs.Pricer.{Verdict, accepted, refused, judged, verdict, priceRefusal, answerTo, price, copiesAfter, priceTables}
-use Rattle.competitive.specs.Claims.{PricedRight}
+use Rattle.competitive.specs.Claims.{Shown, PricedRight, JudgedRight}
 use Rattle.protocol_types.specs.declared.Setup.{Setup}
 use Rattle.protocol_types.specs.declared.Request.{Request}
 use Rattle.protocol_types.specs.declared.Bill.{Bill}
 use Rattle.protocol_types.specs.declared.Entry.{Entry}
 use Rattle.protocol_types.specs.declared.PriceAnswer.{PriceAnswer}
 use Rattle.protocol_types.specs.declared.PriceAnswer.the-variants.{Accepted, Refused}
+use Rattle.protocol.proofs.Rival.{sized-noCopies}
+use Rattle.protocol.proofs.Pricer.{price-passed}
+use Rattle.competitive.proofs.Shown.{none-shown, last-shown}
 
 -- ---- the verdict
 
@@ -66,6 +69,21 @@ refused-clears : (s : Setup) (v : Verdict) → isCost (answerTo v) ≡ false →
 refused-clears s (accepted r c) e = absurd (true≢false e)
 refused-clears s (refused n k) e = refl
 
+module _ (s : Setup) (qs : List Request) (es : List Entry) where
+  legal-verdict : Legal s (noCopies s) qs es → verdict s qs es ≡ accepted (lastCopies s (noCopies s) qs es) (costs s (noCopies s) qs es)
+  unfolding verdict
+  legal-verdict l =
+      legal-accepted s (noCopies s) qs es 0 nothing l
+      ∙ ap (accepted (lastCopies s (noCopies s) qs es))
+      (bill-path {a = plus nothing (costs s (noCopies s) qs es)} {c = costs s (noCopies s) qs es} (omega arith) (omega arith) (omega arith))
+
+  verdict-legal : isAccepted (verdict s qs es) ≡ true → Legal s (noCopies s) qs es
+  unfolding verdict
+  verdict-legal a = accepted-legal s (noCopies s) qs es 0 nothing a
+
+  pub judged-right : JudgedRight s qs es
+  judged-right = record { accepts = legal-verdict; only = λ r c e. verdict-legal (ap isAccepted e) }
+
 module _ (s : Setup) (lent : Rival) (qs : List Request) (es : List Entry) (ok : priceRefusal s lent (length es) (length qs) ≡ noRefusal) where
   price-is : price s lent qs es ≡ answerTo (verdict s qs es)
   unfolding price
@@ -75,26 +93,26 @@ module _ (s : Setup) (lent : Rival) (qs : List Request) (es : List Entry) (ok : 
   unfolding priceTables
   tables-are = rw ok
 
-  legal-verdict : Legal s (noCopies s) qs es → verdict s qs es ≡ accepted (lastCopies s (noCopies s) qs es) (costs s (noCopies s) qs es)
-  unfolding verdict
-  legal-verdict l =
-      legal-accepted s (noCopies s) qs es 0 nothing l
-      ∙ ap (accepted (lastCopies s (noCopies s) qs es))
-      (bill-path {a = plus nothing (costs s (noCopies s) qs es)} {c = costs s (noCopies s) qs es} (omega arith) (omega arith) (omega arith))
-
   accepts : Legal s (noCopies s) qs es → price s lent qs es ≡ Accepted (cycles (costs s (noCopies s) qs es))
-  accepts l = price-is ∙ ap answerTo (legal-verdict l)
+  accepts l = price-is ∙ ap answerTo (legal-verdict s qs es l)
 
   only : (c : ℕ) → price s lent qs es ≡ Accepted c → Legal s (noCopies s) qs es
-  unfolding verdict
-  only c e =
-      accepted-legal s (noCopies s) qs es 0 nothing (sym (answer-accepted (verdict s qs es)) ∙ ap isCost (sym price-is ∙ e))
+  only c e = verdict-legal s qs es (sym (answer-accepted (verdict s qs es)) ∙ ap isCost (sym price-is ∙ e))
+
+  shows : Legal s (noCopies s) qs es → priceTables s lent qs es ≡ lastCopies s (noCopies s) qs es
+  shows l = tables-are ∙ ap (copiesAfter s) (legal-verdict s qs es l)
+
+  shown : Legal s (noCopies s) qs es → Shown (priceTables s lent qs es)
+  shown l =
+      let w = price-passed s lent (length es) (length qs) ok in
+      subst Shown (sym (shows l)) (last-shown s (w .fits) (noCopies s) (sized-noCopies s) (none-shown s) qs es l)
 
   pub priced-right : PricedRight s lent qs es
   priced-right = record {
     accepts = accepts;
-    shows = λ l. tables-are ∙ ap (copiesAfter s) (legal-verdict l);
+    shows = shows;
     only = only;
     clears = λ n k e. tables-are ∙ refused-clears s (verdict s qs es) (ap isCost (sym price-is ∙ e));
     truly = λ c e. let l = accepts (only c e) in cc;
+    shown = λ c e. shown (only c e);
   }

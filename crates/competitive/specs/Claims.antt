@@ -1,25 +1,29 @@
--- What the demands say of whole lists of runs and of whole schedules. proofs/Demands proves it of every setup that is not refused.
+-- What the demands say of whole lists of runs and of whole schedules. proofs/Demands proves it: `Demands` of every setup that is not refused, `RefusedAtOnce` of every setup.
 use Prim.Native.Nat.{ℕ, _+_, _*_, _≤_}
 use mathlib.Core.Path.{_≡_}
-use mathlib.Core.Bool.{true, cond}
+use mathlib.Core.Logic.{_≢_}
+use mathlib.Core.Bool.{true, false, _&&_, cond}
 use mathlib.Core.List.{List, [], _∷_}
 use lib.ListN.{length}
 use lib.Dec.{eqb}
+use Rattle.protocol_types.specs.Lists.{at}
 use Rattle.protocol_types.specs.Refusals.{noRefusal}
-use Rattle.protocol_types.specs.Board.{fetchPrice}
-use Rattle.protocol.specs.Tables.{fresh}
+use Rattle.protocol_types.specs.Board.{setupRefusal, fetchPrice}
+use Rattle.protocol.specs.Tables.{Tables, sized, fresh}
+use Rattle.protocol.specs.Soundness.{sound}
 use Rattle.protocol_types.specs.Conditions.{requestLimit}
 use Rattle.protocol.specs.Accounts.{cycles, freshAccount, cyclesOf, possible}
-use Rattle.protocol.specs.Engines.{run, Run, outcomes, runs, takenAll, spent, expectedAll, valuesOf, Never20Or21}
+use Rattle.protocol.specs.Engines.{run, Run, State, outcomes, runs, takenAll, spent, expectedAll, valuesOf, Never20Or21}
 use Rattle.protocol.specs.Runs.{engine, opening}
 use Rattle.protocol.specs.Rival.{Rival, noCopies, Legal, costs, lastCopies}
-use Rattle.protocol.specs.Pricer.{priceRefusal, price, priceTables}
+use Rattle.protocol.specs.Pricer.{accepted, verdict, priceRefusal, price, priceTables}
 use Rattle.competitive.specs.EngineSchedule.{EngineIsRival}
 use Rattle.protocol_types.specs.declared.Setup.{Setup}
 use Rattle.protocol_types.specs.declared.Variable.{Variable}
 use Rattle.protocol_types.specs.declared.Request.{Request}
 use Rattle.protocol_types.specs.declared.Operation.{Operation}
 use Rattle.protocol_types.specs.declared.Operation.the-variants.{Read, Write}
+use Rattle.protocol_types.specs.declared.Bill.{Bill}
 use Rattle.protocol_types.specs.declared.Account.{Account}
 use Rattle.protocol_types.specs.declared.Entry.{Entry}
 use Rattle.protocol_types.specs.declared.PriceAnswer.the-variants.{Accepted, Refused}
@@ -80,16 +84,40 @@ pub record LastValues (s : Setup) : Type 0 where
 
 -- ---- demand 2: "A rival schedule that 1, 2 and 5 let through is accepted if and only if it is legal, at its true cost."
 
+-- what the rival's tables show of a line, h, b and m being its held mark, block number and dirty mark: "with empty lines all 0"
+pub record LineShown (h b m : ℕ) : Type 0 where
+  pub held-le : h ≤ 1
+  pub mark-le : m ≤ 1
+  pub no-block : h ≡ 0 → b ≡ 0
+  pub no-mark : h ≡ 0 → m ≡ 0
+
+abbrev pub Shown : Rival → Type 0
+Shown r = (k : ℕ) → LineShown (at (r .held) k) (at (r .blocks) k) (at (r .marks) k)
+
 pub record PricedRight (s : Setup) (lent : Rival) (qs : List Request) (es : List Entry) : Type 0 where
   pub accepts : Legal s (noCopies s) qs es → price s lent qs es ≡ Accepted (cycles (costs s (noCopies s) qs es))
   pub shows : Legal s (noCopies s) qs es → priceTables s lent qs es ≡ lastCopies s (noCopies s) qs es
   pub only : (c : ℕ) → price s lent qs es ≡ Accepted c → Legal s (noCopies s) qs es
   pub clears : (n k : ℕ) → price s lent qs es ≡ Refused n k → priceTables s lent qs es ≡ noCopies s
   pub truly : (c : ℕ) → price s lent qs es ≡ Accepted c → c ≡ cycles (costs s (noCopies s) qs es)
+  pub shown : (c : ℕ) → price s lent qs es ≡ Accepted c → Shown (priceTables s lent qs es)
+
+-- "Legality knows no limit of length; 5 is the pricer's alone": the verdict, which the price is made of, of any schedule
+pub record JudgedRight (s : Setup) (qs : List Request) (es : List Entry) : Type 0 where
+  pub accepts : Legal s (noCopies s) qs es → verdict s qs es ≡ accepted (lastCopies s (noCopies s) qs es) (costs s (noCopies s) qs es)
+  pub only : (r : Rival) (c : Bill) → verdict s qs es ≡ accepted r c → Legal s (noCopies s) qs es
+
+-- ---- runs that 1, 2, 20 or 21 refuses at once add nothing, so that 'any list of runs' has no gap: of every setup and every state
+
+pub record RefusedAtOnce (s : Setup) : Type 0 where
+  pub by-setup : setupRefusal s ≢ noRefusal → (w : State Tables) (rs : List (Run Request)) → runs (engine s) w rs ≡ w
+  pub by-tables : (w : State Tables) → sized s (w .tables) && sound s (w .tables) ≡ false → (rs : List (Run Request)) → runs (engine s) w rs ≡ w
+  pub by-account : (w : State Tables) → possible s (w .account) ≡ false → (rs : List (Run Request)) → runs (engine s) w rs ≡ w
 
 -- each demand, of one setup
 pub record Demands (s : Setup) : Type 0 where
   pub last-values : LastValues s
+  pub judged-right : (qs : List Request) (es : List Entry) → JudgedRight s qs es
   pub priced-right : (lent : Rival) (qs : List Request) (es : List Entry) → priceRefusal s lent (length es) (length qs) ≡ noRefusal → PricedRight s lent qs es
   pub demand3 : Demand3 s
   -- the engine's own actions are a legal schedule for the requests that a list of runs takes

@@ -9,7 +9,7 @@ use native.Mathlib.Omega.{arith}
 use native.Mathlib.Nat.{mul-suc}
 use lib.ListN.{length, length-append}
 use lib.Dec.{eqb}
-use borrow.Author.Tests.{eqb-true}
+use borrow.Author.Tests.{eqb-true, ne-eqb}
 use Rattle.protocol_types.specs.Lists.{tail, Each}
 use Rattle.protocol_types.specs.Refusals.{noRefusal, wrongLength, unsoundTables, impossibleAccount}
 use Rattle.protocol_types.specs.Board.{fetchPrice, mostWriteBack}
@@ -98,6 +98,15 @@ module _ {T Q : Type 0} (E : Engine T Q) where
         taken = ap suc (h .taken);
       }
       go false h = left-none t a vs (E .refusal (a .requests) q)
+
+  -- where every run is refused before its first request, a list of runs leaves what it met
+  refused-left : (w : State T) (r : Run Q) → E .runRefusal (w .tables) (w .account) (length (r .requests)) (r .values) ≢ noRefusal → leftBy (outcomeOf E w r) ≡ w
+  unfolding run
+  refused-left w r d = rw (ne-eqb _ _ d)
+
+  pub refused-runs : (w : State T) → ((n : ℕ) (vs : List ℕ) → E .runRefusal (w .tables) (w .account) n vs ≢ noRefusal) → (rs : List (Run Q)) → runs E w rs ≡ w
+  refused-runs w d [] = refl
+  refused-runs w d (r ∷ rs) = rw (refused-left w r (d (length (r .requests)) (r .values))) (refused-runs w d rs)
 
 -- ---- a lawful engine
 

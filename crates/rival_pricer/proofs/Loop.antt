@@ -26,10 +26,11 @@ use Rattle.protocol_types.specs.declared.PriceAnswer.the-variants.{Accepted, Re
 use Rattle.protocol_types.proofs.Laws.{choice, both-true}
 use Rattle.protocol_types.proofs.Conditions.{no-request}
 use Rattle.protocol.proofs.Rival.{sized-noCopies, sized-played}
+use Rattle.protocol.proofs.Pricer.{price-passed}
 use Rattle.rival_copies.specs.Copies.{completion}
 use Rattle.rival_pricing.specs.declared.Pricing.{Pricing}
 use Rattle.rival_pricing.specs.Stages.{completes, broadcasts, awaits, PriceStage, priceStage, pricingAt, advanced, waiting, pricingStopped, rejected, reached, priceTurned, priceBegun, took, completed, PriceReady, Due}
-use Rattle.rival_schedule.proofs.Laws.{price-passed, cheap}
+use Rattle.rival_schedule.proofs.Laws.{cheap}
 
 -- what the list of entries has outside
 abbrev pub no-entry : Entry

@@ -1,66 +1,36 @@
--- The cases of each step, what is known where 1, 2 and 5 let the lists through, and what an entry costs at most.
+-- The cases of each step, and what an entry costs at most.
 -- From protocol's laws of choices and of the first that refuses.
 use Prim.Native.Nat.{ℕ, _≤_}
 use mathlib.Core.Path.{_≡_, refl, _∙_}
 use mathlib.Core.Logic.{_≢_}
-use mathlib.Core.Bool.{Bool, true, false, _&&_}
+use mathlib.Core.Bool.{Bool, true, false}
 use mathlib.Core.List.{List, [], _∷_}
 use native.Mathlib.Omega.{arith}
-use lib.Dec.{leb}
-use borrow.Author.Tests.{leb-true, eqb-true, eq-eqb, ne-eqb}
-use Rattle.protocol_types.specs.Refusals.{noRefusal, unless, wrongLength, tooMany}
-use Rattle.protocol_types.specs.Board.{setupRefusal, Fits, blockOf}
+use borrow.Author.Tests.{eq-eqb, ne-eqb}
+use Rattle.protocol_types.specs.Board.{Fits, blockOf}
 use Rattle.protocol.specs.Accounts.{cycles}
-use Rattle.protocol.specs.Rival.{Rival, rivalSized, RivalSized, noCopies, shared, played, completionBy, completionCycles, cost, completionRefusal, refusal}
-use Rattle.protocol.specs.Pricer.{priceRequestLimit, priceEntryLimit, priceRefusal}
+use Rattle.protocol.specs.Rival.{Rival, noCopies, shared, played, completionBy, completionCycles, cost, completionRefusal, refusal}
+use Rattle.protocol.specs.Pricer.{priceRefusal}
 use Rattle.protocol_types.specs.declared.Setup.{Setup}
 use Rattle.protocol_types.specs.declared.Request.{Request}
 use Rattle.protocol_types.specs.declared.Operation.{Operation}
 use Rattle.protocol_types.specs.declared.Operation.the-variants.{Read, Write}
 use Rattle.protocol_types.specs.declared.Entry.{Entry}
 use Rattle.protocol_types.specs.declared.Entry.the-variants.{Fetch, WriteBack, Drop, Complete, CompleteByBroadcast}
-use Rattle.protocol_types.proofs.Laws.{both-true, three-true, chosen-zero, choice}
-use Rattle.protocol_types.proofs.Board.{setup-fits}
-use Rattle.protocol_types.proofs.Refusals.{neither-refuses}
+use Rattle.protocol_types.proofs.Laws.{choice}
 use Rattle.rival_copies.specs.Copies.{completion}
 use Rattle.rival_pricing.specs.Stages.{awaits, broadcasts, PriceStage, priceStage, pricingAt, advanced, waiting, pricingStopped, rejected, reached, priceTurned, priceBegun, took}
 
 -- ---- 1, 2 and 5
 
-rival-sized : (s : Setup) (r : Rival) → rivalSized s r ≡ true → RivalSized s r
-unfolding rivalSized
-rival-sized s r e =
-    let size = three-true _ _ _ e in
-    record { blocks = eqb-true _ _ (size .0); held = eqb-true _ _ (size .1); marks = eqb-true _ _ (size .2) }
+module _ (s : Setup) (r : Rival) (n m x : ℕ) (is : x ≡ priceRefusal s r n m) where
+  pub start-refused : x ≢ 0 → priceStage (pricingStopped (pricingAt n m 0 0 0) x 0) r ≡ priceBegun s r n m
+  unfolding priceBegun
+  start-refused ne = rw (← is, ne-eqb x 0 ne)
 
--- what 1, 2 and 5 let through
-pub record PricePassed (s : Setup) (r : Rival) (n m : ℕ) : Type 0 where
-  pub fits : Fits s
-  pub sized : RivalSized s r
-  pub few-entries : n ≤ priceEntryLimit
-
-module _ (s : Setup) (r : Rival) (n m : ℕ) where
-  pub price-passed : priceRefusal s r n m ≡ noRefusal → PricePassed s r n m
-  unfolding priceRefusal
-  price-passed e =
-      let few = leb m priceRequestLimit && leb n priceEntryLimit in
-      let one = neither-refuses (setupRefusal s) (unless (rivalSized s r) wrongLength (unless few tooMany noRefusal)) e in
-      let two = chosen-zero (rivalSized s r) (unless few tooMany noRefusal) wrongLength (omega arith) (one .1) in
-      let five = chosen-zero few noRefusal tooMany (omega arith) (two .1) in
-      record {
-        fits = setup-fits s (one .0);
-        sized = rival-sized s r (two .0);
-        few-entries = leb-true _ _ (both-true (leb m priceRequestLimit) (leb n priceEntryLimit) (five .0) .1);
-      }
-
-  module _ (x : ℕ) (is : x ≡ priceRefusal s r n m) where
-    pub start-refused : x ≢ 0 → priceStage (pricingStopped (pricingAt n m 0 0 0) x 0) r ≡ priceBegun s r n m
-    unfolding priceBegun
-    start-refused ne = rw (← is, ne-eqb x 0 ne)
-
-    pub start-passed : x ≡ 0 → reached s (pricingAt n m 0 0 0) (noCopies s) ≡ priceBegun s r n m
-    unfolding priceBegun
-    start-passed z = rw (← is, eq-eqb x 0 z)
+  pub start-passed : x ≡ 0 → reached s (pricingAt n m 0 0 0) (noCopies s) ≡ priceBegun s r n m
+  unfolding priceBegun
+  start-passed z = rw (← is, eq-eqb x 0 z)
 
 -- ---- an entry
 

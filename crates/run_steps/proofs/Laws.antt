@@ -2,24 +2,19 @@
 -- Assumes nothing.
 use Prim.Native.Nat.{ℕ, _<_}
 use mathlib.Core.Path.{_≡_}
-use mathlib.Core.Bool.{_&&_}
 use mathlib.Core.List.{List}
 use native.Mathlib.Decide.{decLt}
 use native.Mathlib.Omega.{arith}
-use lib.ListN.{length, List·getD-eq-default}
-use lib.Dec.{eqb}
-use borrow.Author.Tests.{eqb-true}
-use Rattle.protocol_types.specs.Refusals.{noRefusal, unless, wrongLength, unsoundTables, impossibleAccount}
-use Rattle.protocol_types.specs.Board.{Fits, setupRefusal, slots}
-use Rattle.protocol.specs.Tables.{Tables, sized, counter, block}
-use Rattle.protocol.specs.Soundness.{Sound, sound}
+use lib.ListN.{List·getD-eq-default}
+use Rattle.protocol_types.specs.Refusals.{noRefusal}
+use Rattle.protocol_types.specs.Board.{Fits, slots}
+use Rattle.protocol.specs.Tables.{Tables, counter, block}
+use Rattle.protocol.specs.Soundness.{Sound}
 use Rattle.protocol_types.specs.Conditions.{Valid}
-use Rattle.protocol.specs.Accounts.{possible}
 use Rattle.protocol.specs.Runs.{runRefusal, engine}
 use Rattle.protocol_types.specs.declared.Setup.{Setup}
 use Rattle.protocol_types.specs.declared.Account.{Account}
-use Rattle.protocol_types.proofs.Laws.{Same, same, apart, same?, both-true, chosen-zero}
-use Rattle.protocol_types.proofs.Refusals.{neither-refuses}
+use Rattle.protocol_types.proofs.Laws.{Same, same, apart, same?}
 use Rattle.protocol_types.proofs.Board.{setup-fits}
 use Rattle.protocol.proofs.Checked.{passed-sound}
 use Rattle.protocol_types.proofs.Conditions.{request-passed}
@@ -27,6 +22,7 @@ use Rattle.protocol.proofs.Requests.{bill-spent}
 use Rattle.protocol.proofs.Engines.{Serving}
 use Rattle.engine.specs.Usable.{Usable}
 use Rattle.engine.proofs.Usable.{usable-served}
+use Rattle.protocol.proofs.Runs.{run-checked}
 use Rattle.run_progress.proofs.Laws.{Passed}
 
 -- ---- sound tables name no block outside main memory
@@ -42,18 +38,10 @@ usable-sound s f t d = record { lengths = d .lengths; named = λ k. go k (decLt 
 -- ---- what a refusal number 0 tells
 
 pub run-passed : (s : Setup) (t : Tables) (a : Account) (n : ℕ) (vs : List ℕ) → runRefusal s t a n vs ≡ noRefusal → Passed s (Usable s) t a n vs
-unfolding runRefusal
 run-passed s t a n vs e =
-    let c₄ : ℕ = unless (possible s a) impossibleAccount noRefusal in
-    let c₃ : ℕ = unless (sound s t) unsoundTables c₄ in
-    let c₂ : ℕ = unless (sized s t && eqb (length vs) n) wrongLength c₃ in
-    let e₁ = neither-refuses (setupRefusal s) c₂ e in
-    let e₂ = chosen-zero (sized s t && eqb (length vs) n) c₃ wrongLength (omega arith) (e₁ .1) in
-    let e₃ = chosen-zero (sound s t) c₄ unsoundTables (omega arith) (e₂ .1) in
-    let e₄ = chosen-zero (possible s a) noRefusal impossibleAccount (omega arith) (e₃ .1) in
-    let l = both-true (sized s t) (eqb (length vs) n) (e₂ .0) in
-    let f = setup-fits s (e₁ .0) in
-    record { fits = f; good = usable-sound s f t (passed-sound s f t (l .0) (e₃ .0)); values = eqb-true _ _ (l .1); account = e₄ .0 }
+    let c = run-checked s t a n vs e in
+    let f = setup-fits s (c .setup) in
+    record { fits = f; good = usable-sound s f t (passed-sound s f t (c .sizes) (c .tables)); values = c .values; account = c .account }
 
 -- ---- each request is served
 

@@ -5,7 +5,8 @@ use Rattle.protocol.specs.Rival.{Rival, RivalSized}
 use Rattle.protocol.proofs.Rival.{sized-noCopies}
 use Rattle.rival_copies.specs.Copies.{rivalLent}
 use Rattle.rival_pricing.specs.Stages.{reached}
-use Rattle.rival_schedule.proofs.Laws.{price-passed, start-refused, start-passed}
+use Rattle.protocol.proofs.Pricer.{price-passed}
+use Rattle.rival_schedule.proofs.Laws.{start-refused, start-passed}
 use Rattle.rival_schedule.proofs.begin.Statement.{statement}
 use Rattle.rival_schedule.proofs.begin.Tie as tie
 

@@ -1,0 +1,39 @@
+-- What is known where 1, 2, 20 and 21 let a run through. From the laws of orders of refusals.
+use Prim.Native.Nat.{ℕ}
+use mathlib.Core.Path.{_≡_}
+use mathlib.Core.Bool.{true, _&&_}
+use mathlib.Core.List.{List}
+use native.Mathlib.Omega.{arith}
+use lib.ListN.{length}
+use lib.Dec.{eqb}
+use borrow.Author.Tests.{eqb-true}
+use Rattle.protocol_types.specs.Refusals.{noRefusal, unless, wrongLength, unsoundTables, impossibleAccount}
+use Rattle.protocol_types.specs.Board.{setupRefusal}
+use Rattle.protocol.specs.Tables.{Tables, sized}
+use Rattle.protocol.specs.Soundness.{sound}
+use Rattle.protocol.specs.Accounts.{possible}
+use Rattle.protocol.specs.Runs.{runRefusal}
+use Rattle.protocol_types.specs.declared.Setup.{Setup}
+use Rattle.protocol_types.specs.declared.Account.{Account}
+use Rattle.protocol_types.proofs.Laws.{both-true, chosen-zero}
+use Rattle.protocol_types.proofs.Refusals.{neither-refuses}
+
+pub record RunChecked (s : Setup) (t : Tables) (a : Account) (n : ℕ) (vs : List ℕ) : Type 0 where
+  pub setup : setupRefusal s ≡ noRefusal
+  pub sizes : sized s t ≡ true
+  pub values : length vs ≡ n
+  pub tables : sound s t ≡ true
+  pub account : possible s a ≡ true
+
+pub run-checked : (s : Setup) (t : Tables) (a : Account) (n : ℕ) (vs : List ℕ) → runRefusal s t a n vs ≡ noRefusal → RunChecked s t a n vs
+unfolding runRefusal
+run-checked s t a n vs e =
+    let c₄ : ℕ = unless (possible s a) impossibleAccount noRefusal in
+    let c₃ : ℕ = unless (sound s t) unsoundTables c₄ in
+    let c₂ : ℕ = unless (sized s t && eqb (length vs) n) wrongLength c₃ in
+    let e₁ = neither-refuses (setupRefusal s) c₂ e in
+    let e₂ = chosen-zero (sized s t && eqb (length vs) n) c₃ wrongLength (omega arith) (e₁ .1) in
+    let e₃ = chosen-zero (sound s t) c₄ unsoundTables (omega arith) (e₂ .1) in
+    let e₄ = chosen-zero (possible s a) noRefusal impossibleAccount (omega arith) (e₃ .1) in
+    let l = both-true (sized s t) (eqb (length vs) n) (e₂ .0) in
+    record { setup = e₁ .0; sizes = l .0; values = eqb-true _ _ (l .1); tables = e₃ .0; account = e₄ .0 }
