@@ -1,3 +1,4 @@
 pub mod Leading
 pub mod Parsing
 pub mod Splitting
+pub mod Bytes

@@ -1,38 +1,59 @@
 -- Traces and what is reported of them, as one table. proofs/Cases proves that every row passes.
 use Prim.Native.Nat.{ℕ}
-use mathlib.Core.Bool.{Bool, true, _&&_}
+use mathlib.Core.Bool.{Bool, true, _&&_, cond}
 use mathlib.Core.List.{List, [], _∷_, _++_}
 use lib.ListN.{replicate}
 use lib.Dec.{eqb}
 use Rattle.protocol_types.specs.Lists.{at}
-use Rattle.protocol_types.specs.declared.Account.{Account}
-use Rattle.trace_lines.specs.Trace.{Ended, ended}
+use Rattle.protocol.specs.Tables.{Tables, tables}
+use Rattle.protocol.specs.Sessions.{usual, account, copy, holding, sameAccount, sameTables}
+use Rattle.trace_lines.specs.Trace.{Ended, ended, endedOn}
 use Rattle.trace_lines.specs.declared.Report.{Report}
 
 -- the bytes of a trace, the six numbers that are reported, and the first word of processor 0's first line afterwards
-pub record Row : Type 0 where
+pub record Case : Type 0 where
   pub bytes : List ℕ
   pub report : Report
   pub word : ℕ
 
+pub data Row : Type 0 where
+  case : Case → Row
+  -- the trace "1 0\n" over lent tables of sevens, as many in each (block numbers, counters, dirty marks, words, memory), and the refusal
+  lentCase : ℕ → ℕ → ℕ → ℕ → ℕ → ℕ → Row
+
 abbrev pub row : List ℕ → ℕ → ℕ → ℕ → ℕ → ℕ → ℕ → ℕ → Row
-row bs n f w u r l x = record {
+row bs n f w u r l x = case (record {
   bytes = bs;
   report = record { account = record { requests = n; fetch = f; «write_back» = w; update = u }; refusal = r; line = l };
   word = x;
-}
+})
 
-abbrev pub sameAccount : Account → Account → Bool
-sameAccount a c = eqb (a .requests) (c .requests) && eqb (a .fetch) (c .fetch) && eqb (a .«write_back») (c .«write_back») && eqb (a .update) (c .update)
+abbrev pub sameReport : Report → Report → Bool
+sameReport a c = sameAccount (a .account) (c .account) && eqb (a .refusal) (c .refusal) && eqb (a .line) (c .line)
 
-abbrev pub sameEnd : Ended → Row → Bool
-sameEnd e r =
-    sameAccount (e .report .account) (r .report .account) && eqb (e .report .refusal) (r .report .refusal) && eqb (e .report .line) (r .report .line)
-    && eqb (at (e .tables .words) 0) (r .word)
+abbrev pub casePasses : Case → Bool
+casePasses c =
+    let e : Ended = ended (c .bytes) in
+    sameReport (e .report) (c .report) && eqb (at (e .tables .words) 0) (c .word)
+
+abbrev pub sevens : ℕ → ℕ → ℕ → ℕ → ℕ → Tables
+sevens b c m w y = tables (replicate b 7) (replicate c 7) (replicate m 7) (replicate w 7) (replicate y 7)
+
+-- refused by 2, the tables stay, and nothing is counted
+abbrev pub lentPasses : Tables → ℕ → Bool
+lentPasses t n =
+    let e : Ended = endedOn t (49 ∷ 32 ∷ 48 ∷ 10 ∷ []) in
+    let taken : Bool = eqb n 0 in
+    sameReport (e .report) (record { account = cond taken (account 1 4 0 0) (account 0 0 0 0); refusal = n; line = 0 })
+    && sameTables (e .tables) (cond taken (holding usual (copy 0 0 4 1 (1 ∷ 0 ∷ 0 ∷ 0 ∷ []) ∷ []) []) t)
+
+abbrev pub passes : Row → Bool
+passes (case c) = casePasses c
+passes (lentCase b c m w y n) = lentPasses (sevens b c m w y) n
 
 abbrev pub everyRow : List Row → Bool
 everyRow [] = true
-everyRow (r ∷ rs) = sameEnd (ended (r .bytes)) r && everyRow rs
+everyRow (r ∷ rs) = passes r && everyRow rs
 
 -- "0 0 " and n bytes of ignored text
 abbrev pub wide : ℕ → List ℕ
@@ -85,4 +106,53 @@ rows =
     row (wide 76) 1 4 0 0 0 0 0 ∷
     -- 81 are not, whatever the label
     row (wide 77) 0 0 0 0 6 1 0 ∷
+    -- bits 16 to 23 of an address count: variable 2,097,152 gives 4
+    row (48 ∷ 32 ∷ 48 ∷ 48 ∷ 56 ∷ 48 ∷ 48 ∷ 48 ∷ 48 ∷ 48 ∷ 10 ∷ []) 0 0 0 0 4 1 0 ∷
+    -- the top byte is the processor, all 8 bits of it: 128 gives 3
+    row (48 ∷ 32 ∷ 56 ∷ 48 ∷ 48 ∷ 48 ∷ 48 ∷ 48 ∷ 48 ∷ 48 ∷ 10 ∷ []) 0 0 0 0 3 1 0 ∷
+    -- 8 lines: blocks 0 and 4 stand side by side
+    row (48 ∷ 32 ∷ 48 ∷ 10 ∷ 48 ∷ 32 ∷ 52 ∷ 48 ∷ 10 ∷ 48 ∷ 32 ∷ 48 ∷ 10 ∷ []) 3 8 0 0 0 0 0 ∷
+    -- a label is one digit
+    row (48 ∷ 48 ∷ 32 ∷ 48 ∷ 10 ∷ []) 0 0 0 0 6 1 0 ∷
+    -- byte 47 is neither a digit nor a gap
+    row (48 ∷ 32 ∷ 48 ∷ 47 ∷ 10 ∷ []) 0 0 0 0 6 1 0 ∷
+    -- byte 58 is neither a digit nor a gap
+    row (48 ∷ 32 ∷ 48 ∷ 58 ∷ 10 ∷ []) 0 0 0 0 6 1 0 ∷
+    -- byte 64 is neither a digit nor a gap
+    row (48 ∷ 32 ∷ 48 ∷ 64 ∷ 10 ∷ []) 0 0 0 0 6 1 0 ∷
+    -- byte 71 is neither a digit nor a gap
+    row (48 ∷ 32 ∷ 48 ∷ 71 ∷ 10 ∷ []) 0 0 0 0 6 1 0 ∷
+    -- byte 96 is neither a digit nor a gap
+    row (48 ∷ 32 ∷ 48 ∷ 96 ∷ 10 ∷ []) 0 0 0 0 6 1 0 ∷
+    -- byte 103 is neither a digit nor a gap
+    row (48 ∷ 32 ∷ 48 ∷ 103 ∷ 10 ∷ []) 0 0 0 0 6 1 0 ∷
+    -- byte 11 is neither a digit nor a gap
+    row (48 ∷ 32 ∷ 48 ∷ 11 ∷ 10 ∷ []) 0 0 0 0 6 1 0 ∷
+    -- byte 12 is neither a digit nor a gap
+    row (48 ∷ 32 ∷ 48 ∷ 12 ∷ 10 ∷ []) 0 0 0 0 6 1 0 ∷
+    -- byte 44 is neither a digit nor a gap
+    row (48 ∷ 32 ∷ 48 ∷ 44 ∷ 10 ∷ []) 0 0 0 0 6 1 0 ∷
+    -- byte 47 is no label
+    row (47 ∷ 32 ∷ 48 ∷ 10 ∷ []) 0 0 0 0 6 1 0 ∷
+    -- byte 58 is no label
+    row (58 ∷ 32 ∷ 48 ∷ 10 ∷ []) 0 0 0 0 6 1 0 ∷
+    -- c, d, e and E are digits: the address is 0xcdeE, its variable not below 256
+    row (48 ∷ 32 ∷ 48 ∷ 99 ∷ 100 ∷ 101 ∷ 69 ∷ 10 ∷ []) 0 0 0 0 4 1 0 ∷
+    -- their values: 0x3cD, 0x3eC and 0x3Ed lie in two blocks
+    row (48 ∷ 32 ∷ 51 ∷ 99 ∷ 68 ∷ 10 ∷ 48 ∷ 32 ∷ 51 ∷ 101 ∷ 67 ∷ 10 ∷ 48 ∷ 32 ∷ 51 ∷ 69 ∷ 100 ∷ 10 ∷ []) 3 8 0 0 0 0 0 ∷
+    -- processor 0 writes, and processor 1 holds the block: 1 update cycle
+    row (48 ∷ 32 ∷ 48 ∷ 10 ∷ 48 ∷ 32 ∷ 49 ∷ 48 ∷ 48 ∷ 48 ∷ 48 ∷ 48 ∷ 48 ∷ 10 ∷ 49 ∷ 32 ∷ 48 ∷ 10 ∷ []) 3 8 0 1 0 0 3 ∷
+    -- lent tables: of the right lengths, whatever they hold
+    lentCase 32 32 32 128 256 0 ∷
+    -- 2: each too short, or too long
+    lentCase 31 32 32 128 256 2 ∷
+    lentCase 33 32 32 128 256 2 ∷
+    lentCase 32 31 32 128 256 2 ∷
+    lentCase 32 33 32 128 256 2 ∷
+    lentCase 32 32 31 128 256 2 ∷
+    lentCase 32 32 33 128 256 2 ∷
+    lentCase 32 32 32 127 256 2 ∷
+    lentCase 32 32 32 129 256 2 ∷
+    lentCase 32 32 32 128 255 2 ∷
+    lentCase 32 32 32 128 257 2 ∷
     []
