@@ -114,6 +114,9 @@ sameAccount a c = eqb (a .requests) (c .requests) && eqb (a .fetch) (c .fetch) &
 abbrev pub sameAnswer : RunAnswer → RunAnswer → Bool
 sameAnswer a c = eqb (a .taken) (c .taken) && eqb (a .refusal) (c .refusal) && eqb (a .place) (c .place)
 
+abbrev pub sameRival : Rival → Rival → Bool
+sameRival r q = sameList (r .blocks) (q .blocks) && sameList (r .held) (q .held) && sameList (r .marks) (q .marks)
+
 abbrev pub sameNumbers : PriceNumbers → PriceNumbers → Bool
 sameNumbers a c = eqb (a .number) (c .number) && eqb (a .place) (c .place) && eqb (a .cost) (c .cost)
 
@@ -214,14 +217,20 @@ unfoldable pub quotePasses : Quote → Bool
 quotePasses w =
     let r : Rival = priceTables (w .setup) (sevens (w .setup)) (w .requests) (w .entries) in
     sameNumbers (inNumbers (price (w .setup) (sevens (w .setup)) (w .requests) (w .entries))) (numbered (w .number) (w .place) (w .cost))
-    && sameList (r .blocks) (w .blocks) && sameList (r .held) (w .held) && sameList (r .marks) (w .marks)
+    && sameRival r (rival (w .blocks) (w .held) (w .marks))
+
+-- and a refusal of an empty schedule leaves the tables
+abbrev pub checkedPasses : Setup → Rival → ℕ → ℕ → ℕ → Bool
+checkedPasses s r n m x =
+    let q : Rival = priceTables s r [] [] in
+    eqb (priceRefusal s r n m) x && cond (eqb n 0 && eqb m 0 && not (eqb x 0)) (sameRival q r) true
 
 abbrev pub passes : Row → Bool
 passes (session w) = sessionPasses w
 passes (tabled s t n) = tabledPasses s t n
 passes (lent w) = lentPasses w
 passes (quote w) = quotePasses w
-passes (checked s b h k n m x) = eqb (priceRefusal s (rival (replicate b 7) (replicate h 7) (replicate k 7)) n m) x
+passes (checked s b h k n m x) = checkedPasses s (rival (replicate b 7) (replicate h 7) (replicate k 7)) n m x
 
 abbrev pub everyRow : List Row → Bool
 everyRow [] = true
@@ -767,42 +776,42 @@ rows =
     ∷ session (record {
       setup = usual;
       account = account 0 0 0 0;
-      before = write 0 41 5 ∷ read 1 41 ∷ read 0 8 ∷ [];
+      before = write 0 40 5 ∷ read 1 40 ∷ read 0 8 ∷ [];
       requests = read 0 37 ∷ [];
       values = 0 ∷ [];
       answer = answered 1 0 0;
       cost = cost 4 0 0;
       left = account 4 16 0 0;
       changes = true;
-      lines = copy 1 9 4 0 (0 ∷ 0 ∷ 0 ∷ 0 ∷ []) ∷ copy 2 2 4 0 (0 ∷ 0 ∷ 0 ∷ 0 ∷ []) ∷ copy 10 10 4 0 (0 ∷ 5 ∷ 0 ∷ 0 ∷ []) ∷ [];
-      memory = cell 41 5 ∷ [];
+      lines = copy 1 9 4 0 (0 ∷ 0 ∷ 0 ∷ 0 ∷ []) ∷ copy 2 2 4 0 (0 ∷ 0 ∷ 0 ∷ 0 ∷ []) ∷ copy 10 10 4 0 (5 ∷ 0 ∷ 0 ∷ 0 ∷ []) ∷ [];
+      memory = cell 40 5 ∷ [];
     })
     -- a write-back takes p words and no more, and clears one mark
     ∷ session (record {
       setup = usual;
       account = account 0 0 0 0;
-      before = write 0 37 6 ∷ write 0 9 5 ∷ [];
+      before = write 0 37 6 ∷ write 0 8 5 ∷ [];
       requests = read 0 5 ∷ [];
       values = 0 ∷ [];
       answer = answered 1 0 0;
       cost = cost 4 4 0;
       left = account 3 12 4 0;
       changes = true;
-      lines = copy 1 1 4 0 (0 ∷ 0 ∷ 0 ∷ 0 ∷ []) ∷ copy 2 2 4 1 (0 ∷ 5 ∷ 0 ∷ 0 ∷ []) ∷ [];
+      lines = copy 1 1 4 0 (0 ∷ 0 ∷ 0 ∷ 0 ∷ []) ∷ copy 2 2 4 1 (5 ∷ 0 ∷ 0 ∷ 0 ∷ []) ∷ [];
       memory = cell 37 6 ∷ [];
     })
     -- a line that becomes empty is p words and no more
     ∷ session (record {
       setup = board 2 3 2 6;
       account = account 0 0 0 0;
-      before = read 0 6 ∷ read 1 6 ∷ write 1 9 5 ∷ write 0 7 1 ∷ [];
+      before = read 0 6 ∷ read 1 6 ∷ write 1 8 5 ∷ write 0 7 1 ∷ [];
       requests = write 0 6 2 ∷ [];
       values = 2 ∷ [];
       answer = answered 1 0 0;
       cost = cost 0 0 1;
       left = account 5 6 0 2;
       changes = true;
-      lines = copy 0 3 2 0 (2 ∷ 1 ∷ []) ∷ copy 4 4 2 1 (0 ∷ 5 ∷ []) ∷ [];
+      lines = copy 0 3 2 0 (2 ∷ 1 ∷ []) ∷ copy 4 4 2 1 (5 ∷ 0 ∷ []) ∷ [];
       memory = cell 6 2 ∷ cell 7 1 ∷ [];
     })
     -- one processor: no other holder, ever
