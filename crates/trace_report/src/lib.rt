@@ -4,7 +4,7 @@ ghost use Rattle.protocol.specs.Tables.{fresh};
 ghost use Rattle.protocol.specs.Lent.{lent, before, after};
 ghost use Rattle.trace_lines.specs.Trace.{traceSetup};
 ghost use Rattle.trace_count.specs.Counting.{countStage, Countable};
-ghost use Rattle.trace_report.specs.Reading.{readOf, reading, afterRead, Took, Reached, Reported};
+ghost use Rattle.trace_report.specs.Reading.{readOf, reading, afterRead, Took, Reached, Reported, Withheld, Told};
 use libc::STDERR_FILENO;
 use libc::STDIN_FILENO;
 use libc::STDOUT_FILENO;
@@ -131,23 +131,38 @@ fn read_report(
     }
 }
 
-// Writes what an answer has to say: the report, or a sentence on standard error. After a read error no totals are written, since they would be those of a part of the trace.
-fn tell(answer: Answer) {
+// What was told: an answer, and whether its report was written.
+pub struct Outcome {
+    pub answer: Answer,
+    pub written: bool,
+}
+
+// Writes the report of an answer, or says on standard error why it is not written: whether it was. After a read error no totals are written, since they would be those of a part of the trace.
+fn tell(answer: Answer) -> bool
+    ensures { λ r. ⌜ Withheld (answer .failed) r ⌝ }
+{
     if answer.failed {
         io::write_all(
             STDERR_FILENO,
             b"buscount: standard input could not be read.\n",
         );
-        return;
+        return false;
     }
     let mut text = [0u8; TEXT_WIDTH];
     let length = trace_text::render(answer.report, &mut text);
-    io::write_all(STDOUT_FILENO, &text[..length]);
+    if io::write_all(STDOUT_FILENO, &text[..length]) {
+        return true;
+    }
+    io::write_all(
+        STDERR_FILENO,
+        b"buscount: the report could not be written.\n",
+    );
+    false
 }
 
 // The program `buscount`: what it told.
-pub fn run() -> Answer
-    ensures { λ r. ⌜ Reported r ⌝ }
+pub fn run() -> Outcome
+    ensures { λ r. ⌜ Told r ⌝ }
 {
     let mut blocks = [0u32; SLOTS];
     let mut counters = [0u32; SLOTS];
@@ -161,6 +176,9 @@ pub fn run() -> Answer
         &mut words,
         &mut memory,
     );
-    tell(answer);
-    answer
+    let written = tell(answer);
+    Outcome {
+        answer: answer,
+        written: written,
+    }
 }
