@@ -1,6 +1,7 @@
 #!/usr/bin/env bash
 # Holds buscount to the plain C program on random traces in pieces of odd sizes, and to what document 01 says at the
-# limit of 1,000,000 requests (22 at line 1,000,001), on a line of 1 GB, and after a read error. Needs rt, gcc and python3.
+# limit of 1,000,000 requests (22 at line 1,000,001) and on a line of 1 GB; then to the sentences on standard error after a
+# read error and after a write error. Needs rt, gcc and python3.
 set -eu
 cd "$(dirname "$0")/.."
 out=target/bench
@@ -18,5 +19,10 @@ long=$(head -c 1000000000 /dev/zero | tr '\0' '0' | target/bin/buscount | tail -
 echo "a line of 1 GB: $long"
 
 target/bin/buscount < . > "$out/printed" 2> "$out/said"
-[ ! -s "$out/printed" ] && grep -q "could not be read" "$out/said" || { echo "a read error printed:"; cat "$out/printed" "$out/said"; exit 1; }
-echo "a read error: $(cat "$out/said")"
+said=$(cat "$out/said")
+[ ! -s "$out/printed" ] && [ "$said" = "buscount: standard input could not be read." ] || { echo "a read error printed:"; cat "$out/printed" "$out/said"; exit 1; }
+echo "a read error: $said"
+
+said=$(target/bin/buscount < crates/buscount/stdin 2>&1 > /dev/full)
+[ "$said" = "buscount: the report could not be written." ] || { echo "a write error: $said"; exit 1; }
+echo "a write error: $said"
