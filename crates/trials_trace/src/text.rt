@@ -1,4 +1,4 @@
-// Din traces: right lines, and now and then a wrong one.
+// Din traces: right lines, and now and then one that is wrong, or may be, as it has a byte of any kind where few may stand.
 use crate::layout;
 use crate::layout::BYTES;
 use crate::layout::Lending;
@@ -85,8 +85,8 @@ fn put_many(cells: &mut Cells, from: u32, x: u32, n: u32) -> u32 {
     at
 }
 
-// What is wrong with a line; any other number is nothing.
-const LETTER: u32 = 0;
+// What is wrong with a line; any other number is nothing. An odd byte may also happen to be right.
+const ODD_LABEL: u32 = 0;
 
 const LABEL: u32 = 1;
 
@@ -96,7 +96,7 @@ const NINE_DIGITS: u32 = 3;
 
 const NO_DIGIT: u32 = 4;
 
-const OTHER_TEXT: u32 = 5;
+const ODD_END: u32 = 5;
 
 const PROCESSOR: u32 = 6;
 
@@ -106,13 +106,20 @@ const EMPTY: u32 = 8;
 
 const LONG: u32 = 9;
 
+const ODD_BLANK: u32 = 10;
+
+// An odd byte, to stand after a digit: any from the vertical tab to the tilde.
+fn pick_odd(cells: &mut Cells) -> u32 {
+    between(cells, 11, 126)
+}
+
 // The byte of a label.
 fn pick_label(cells: &mut Cells, wrong: u32) -> u32 {
     let label = draw(cells, 3);
     let high = between(cells, 3, 9);
-    let letter = between(cells, 58, 120);
-    if wrong == LETTER {
-        return letter;
+    let odd = between(cells, 33, 126);
+    if wrong == ODD_LABEL {
+        return odd;
     }
     if wrong == LABEL {
         return sum(DIGIT_0, high);
@@ -145,7 +152,8 @@ fn pick_address(cells: &mut Cells, wrong: u32) -> u32 {
     address_of(i, v, low)
 }
 
-// How many digits an address is written with: it may have zeros in front.
+// How many digits an address is written with: it may have zeros in front. Before an odd byte there may be any number, so that another digit
+// is one too many for few of them.
 fn pick_digits(cells: &mut Cells, address: u32, wrong: u32) -> u32 {
     let short = between(cells, 1, 8);
     let middle = between(cells, 3, 8);
@@ -154,6 +162,9 @@ fn pick_digits(cells: &mut Cells, address: u32, wrong: u32) -> u32 {
     }
     if wrong == NO_DIGIT {
         return 0;
+    }
+    if wrong == ODD_END {
+        return short;
     }
     if address < 16 {
         return short;
@@ -164,11 +175,10 @@ fn pick_digits(cells: &mut Cells, address: u32, wrong: u32) -> u32 {
     8
 }
 
-// The byte after an address: a carriage return, the gap before ignored text, or one that may not stand there; 0 if the
-// line ends.
-fn gap_after(wrong: u32, roll: u32, other: u32) -> u32 {
-    if wrong == OTHER_TEXT {
-        return other;
+// The byte after an address: a carriage return, the gap before ignored text, or an odd one; 0 if the line ends.
+fn gap_after(wrong: u32, roll: u32, odd: u32) -> u32 {
+    if wrong == ODD_END {
+        return odd;
     }
     if wrong == LONG {
         return BLANK;
@@ -183,7 +193,7 @@ fn gap_after(wrong: u32, roll: u32, other: u32) -> u32 {
 
 // How many bytes of ignored text follow it: n, or up to the end of a line of about 80 bytes.
 fn text_after(wrong: u32, roll: u32, n: u32, at: u32, end: u32) -> u32 {
-    if wrong == OTHER_TEXT {
+    if wrong == ODD_END {
         return 0;
     }
     if wrong == LONG {
@@ -201,8 +211,8 @@ fn put_rest(cells: &mut Cells, start: u32, at: u32, wrong: u32) -> u32 {
     let n = draw(cells, 12);
     let x = between(cells, 14, 255);
     let width = between(cells, 79, 82);
-    let other = between(cells, 103, 126);
-    let gap = gap_after(wrong, roll, other);
+    let odd = pick_odd(cells);
+    let gap = gap_after(wrong, roll, odd);
     if gap == 0 {
         return at;
     }
@@ -216,22 +226,26 @@ fn put_text(cells: &mut Cells, at: u32, gap: u32, x: u32, n: u32) -> u32 {
     put_many(cells, from, x, n)
 }
 
-// A blank; a tab once in a while.
-fn blank_of(tab: u32) -> u32 {
+// The first byte after a label: a blank, a tab once in a while, or an odd one.
+fn first_blank(wrong: u32, tab: u32, odd: u32) -> u32 {
+    if wrong == ODD_BLANK {
+        return odd;
+    }
     if tab == 0 {
         return TAB;
     }
     BLANK
 }
 
-// The blanks after a label, the first of them perhaps a tab.
+// The blanks after a label.
 fn put_blanks(cells: &mut Cells, at: u32, wrong: u32) -> u32 {
     let n = between(cells, 1, 3);
     let tab = draw(cells, 4);
+    let odd = pick_odd(cells);
     if wrong == NO_BLANK {
         return at;
     }
-    put_text(cells, at, blank_of(tab), BLANK, less(n, 1))
+    put_text(cells, at, first_blank(wrong, tab, odd), BLANK, less(n, 1))
 }
 
 // A line's parts in turn.
@@ -261,8 +275,19 @@ fn put_line(cells: &mut Cells, start: u32, wrong: u32) -> u32 {
     put_parts(cells, start, label, address, digits, wrong)
 }
 
+// What is wrong with the next line. Odd bytes come up more often, since there are many of them.
+fn pick_wrong(cells: &mut Cells) -> u32 {
+    let roll = draw(cells, 400);
+    match roll {
+        11..=13 => ODD_END,
+        14..=16 => ODD_BLANK,
+        17..=18 => ODD_LABEL,
+        _ => roll,
+    }
+}
+
 fn put_whole_line(cells: &mut Cells, start: u32) -> u32 {
-    let wrong = draw(cells, 200);
+    let wrong = pick_wrong(cells);
     let end = put_line(cells, start, wrong);
     put_byte(cells, end, NEWLINE)
 }
