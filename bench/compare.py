@@ -25,7 +25,8 @@ def line(rng):
 
 
 def damaged(rng, text):
-    kind = rng.randrange(8)
+    kind = rng.randrange(10)
+    odd = chr(rng.randrange(11, 127))
     if kind == 0:
         return ""
     if kind == 1:
@@ -39,7 +40,11 @@ def damaged(rng, text):
     if kind == 5:
         return text[:2] + "0" * rng.choice([7, 8, 9]) + "1"
     if kind == 6:
-        return text + rng.choice("ghxz-,")
+        return text + odd
+    if kind == 7:
+        return text[0] + odd + text[2:]
+    if kind == 8:
+        return odd + text[1:]
     return "".join(chr(rng.randrange(1, 256)) for _ in range(rng.randrange(20)))
 
 

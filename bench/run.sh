@@ -1,7 +1,8 @@
 #!/usr/bin/env bash
 # Times buscount beside the same job in plain C, Rust and Free Pascal, in one go, on a made trace of 1,000,000 lines.
-# Prints the least and the mean user time of RUNS runs (default 60), in turn, and their ratios to C's. The least alone is
-# rough, since the kernel counts user time in steps. Needs rt, gcc, rustc, fpc and python3.
+# Prints the least and the mean of RUNS runs (default 60), the four in turn: user time, system time and their sum, and of
+# user time and the sum the ratio to C's. The least alone is rough, since the kernel counts in steps. Needs rt, gcc, rustc,
+# fpc and python3.
 set -eu
 cd "$(dirname "$0")/.."
 runs=${RUNS:-60}
@@ -21,14 +22,24 @@ import resource, subprocess, sys
 folder, runs = sys.argv[1], int(sys.argv[2])
 names = ["buscount", "c", "rust", "pascal"]
 taken = {name: [] for name in names}
+
+
+def used():
+    usage = resource.getrusage(resource.RUSAGE_CHILDREN)
+    return usage.ru_utime, usage.ru_stime
+
+
 for _ in range(runs):
     for name in names:
-        before = resource.getrusage(resource.RUSAGE_CHILDREN).ru_utime
+        before = used()
         with open(folder + "/trace") as trace:
             subprocess.run([folder + "/" + name], stdin=trace, stdout=subprocess.DEVNULL, check=True)
-        taken[name].append(resource.getrusage(resource.RUSAGE_CHILDREN).ru_utime - before)
-least = {name: min(taken[name]) for name in names}
-mean = {name: sum(taken[name]) / runs for name in names}
-for name in names:
-    print("%-9s least %.3f s, %.2f x C   mean %.3f s, %.2f x C" % (name, least[name], least[name] / least["c"], mean[name], mean[name] / mean["c"]))
+        user, system = (now - then for now, then in zip(used(), before))
+        taken[name].append((user, system, user + system))
+for what, of in ("least", min), ("mean", lambda times: sum(times) / runs):
+    times = {name: [of(column) for column in zip(*taken[name])] for name in names}
+    for name in names:
+        user, system, both = times[name]
+        ratios = "user %.2f x C, sum %.2f x C" % (user / times["c"][0], both / times["c"][2])
+        print("%-5s %-9s user %.4f s, system %.4f s, sum %.4f s   %s" % (what, name, user, system, both, ratios))
 P
