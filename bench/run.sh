@@ -1,8 +1,8 @@
 #!/usr/bin/env bash
 # Times buscount beside the same job in plain C, Rust and Free Pascal, in one go, on a made trace of 1,000,000 lines.
 # Prints the least and the mean of RUNS runs (default 60), the four in turn: user time, system time and their sum, and of
-# user time and the sum the ratio to C's. The least alone is rough, since the kernel counts in steps. Needs rt, gcc, rustc,
-# fpc and python3.
+# user time and the sum the ratio to C's. The least user time alone is rough, since the kernel divides a run's time into
+# the two by ticks; the sum is steadier. Needs rt, gcc, rustc, fpc and python3.
 set -eu
 cd "$(dirname "$0")/.."
 runs=${RUNS:-60}
