@@ -48,6 +48,8 @@ try 'a program named by the environment' 0 crates/buscount/stdout '' env BUSCOUN
 cp "$whole" "$work/a trace"
 from_elsewhere() { (cd "$work" && "$run" 'a trace'); }
 try 'from another folder' 0 crates/buscount/stdout '' from_elsewhere
+ln -s "$run" "$work/link"
+try 'by a link' 0 crates/buscount/stdout '' "$work/link" "$whole"
 target/bin/buscount < /dev/null > "$work/empty"
 try 'an empty trace' 0 "$work/empty" '' "$run" /dev/null
 yes '0 0' | head -n 1000000 > "$work/long"
