@@ -69,7 +69,7 @@ unwritten='buscount.sh: the report could not be written'
 full() { "$run" "$1" > /dev/full; }
 closed() { "$run" "$1" >&-; }
 unread_pipe() {
-    { "$run" "$1"; echo $? > "$work/status"; } | (exec <&-; sleep 0.5)
+    { until [ -e "$work/closed" ]; do sleep 0.1; done; "$run" "$1"; echo $? > "$work/status"; } | (exec <&-; : > "$work/closed")
     return "$(cat "$work/status")"
 }
 try 'a full device' 2 /dev/null "$unwritten" full "$whole"
@@ -84,7 +84,7 @@ try 'a program that fails' 2 /dev/null 'buscount.sh: * ended with status 1' env 
 # The signal goes to the script alone; buscount must be ended too, so that nothing takes the line that comes after it.
 interrupt() {
     rm -f "$work/taken"
-    { sleep 1; echo '0 0' 2> /dev/null && echo > "$work/taken"; } | timeout --foreground --preserve-status -s "$1" 0.5 "$run"
+    { sleep 2; echo '0 0' 2> /dev/null && echo > "$work/taken"; } | timeout --foreground --preserve-status -s "$1" 1 "$run"
     local status=${PIPESTATUS[1]}
     [ ! -e "$work/taken" ] || return 1
     return $status
