@@ -1,4 +1,4 @@
-// Din traces: right lines, and now and then one that is wrong, or may be, as it has a byte of any kind where few may stand.
+// Din traces: right lines, and now and then a wrong one, or one with an odd byte, which may be right or wrong.
 use crate::layout;
 use crate::layout::BYTES;
 use crate::layout::Lending;
@@ -152,8 +152,8 @@ fn pick_address(cells: &mut Cells, wrong: u32) -> u32 {
     address_of(i, v, low)
 }
 
-// How many digits an address is written with: it may have zeros in front. Before an odd byte there may be any number, so that another digit
-// is one too many for few of them.
+// How many digits an address is written with: it may have zeros in front. Before an odd byte it is any number of them, so that one digit
+// more is seldom too many.
 fn pick_digits(cells: &mut Cells, address: u32, wrong: u32) -> u32 {
     let short = between(cells, 1, 8);
     let middle = between(cells, 3, 8);
