@@ -15,7 +15,7 @@ use Rattle.trace_count.specs.Counting.{CountStage, countStage, freshCount}
 use Rattle.trace.specs.Feeding.{fed}
 use Rattle.trace_report.specs.declared.Progress.{Progress}
 use Rattle.trace_report.specs.declared.Answer.{Answer}
-use Rattle.trace_report.specs.declared.Outcome.{Outcome}
+use Rattle.trace_report.specs.declared.Delivery.{Delivery}
 
 -- ---- one read
 
@@ -92,12 +92,12 @@ pub record Reported (a : Answer) : Type 0 where
   pub failed : a .failed ≡ afterReads reads .failed
   pub is : a .report ≡ report (allBrought reads)
 
--- ---- what is told
+-- ---- what is written
 
 -- no report is written after a failed read. No contract says more of a write: neither whether it takes the bytes, nor that they arrive
 abbrev pub Withheld : Bool → Bool → Type 0
 Withheld failed written = failed ≡ true → written ≡ false
 
-pub record Told (o : Outcome) : Type 0 where
+pub record Delivered (o : Delivery) : Type 0 where
   pub reported : Reported (o .answer)
   pub withheld : Withheld (o .answer .failed) (o .written)

@@ -4,7 +4,7 @@ ghost use Rattle.protocol.specs.Tables.{fresh};
 ghost use Rattle.protocol.specs.Lent.{lent, before, after};
 ghost use Rattle.trace_lines.specs.Trace.{traceSetup};
 ghost use Rattle.trace_count.specs.Counting.{countStage, Countable};
-ghost use Rattle.trace_report.specs.Reading.{readOf, reading, afterRead, Took, Reached, Reported, Withheld, Told};
+ghost use Rattle.trace_report.specs.Reading.{readOf, reading, afterRead, Took, Reached, Reported, Withheld, Delivered};
 use libc::STDERR_FILENO;
 use libc::STDIN_FILENO;
 use libc::STDOUT_FILENO;
@@ -131,8 +131,8 @@ fn read_report(
     }
 }
 
-// What was told: an answer, and whether its report was written.
-pub struct Outcome {
+// An answer, and whether its report was written.
+pub struct Delivery {
     pub answer: Answer,
     pub written: bool,
 }
@@ -160,9 +160,9 @@ fn tell(answer: Answer) -> bool
     false
 }
 
-// The program `buscount`: what it told.
-pub fn run() -> Outcome
-    ensures { λ r. ⌜ Told r ⌝ }
+// The program `buscount`: what it answers, and whether that was written.
+pub fn run() -> Delivery
+    ensures { λ r. ⌜ Delivered r ⌝ }
 {
     let mut blocks = [0u32; SLOTS];
     let mut counters = [0u32; SLOTS];
@@ -177,7 +177,7 @@ pub fn run() -> Outcome
         &mut memory,
     );
     let written = tell(answer);
-    Outcome {
+    Delivery {
         answer: answer,
         written: written,
     }
