@@ -8,18 +8,18 @@ use native.Mathlib.Omega.{arith}
 use lib.ListN.{length, getD}
 use Rattle.protocol_types.specs.declared.Request.{Request}
 use Rattle.protocol_types.specs.declared.Entry.{Entry}
-use Rattle.host_decoding.specs.Records.{requestAt, requestsOf, entryAt, entriesOf}
+use Rattle.host_decoding.specs.Records.{requestWidth, requestAt, requestsOf, entryWidth, entryAt, entriesOf}
 
 -- ---- four numbers a request
 
-pub request-count : (ns : List ℕ) → length (requestsOf ns) ≡ length ns / 4
+pub request-count : (ns : List ℕ) → length (requestsOf ns) ≡ length ns / requestWidth
 request-count [] = refl
 request-count (i ∷ []) = refl
 request-count (i ∷ o ∷ []) = refl
 request-count (i ∷ o ∷ v ∷ []) = refl
 request-count (i ∷ o ∷ v ∷ x ∷ ns) = omega (arith, request-count ns)
 
-pub request-at : (ns : List ℕ) (k : ℕ) (d : Request) → k < length ns / 4 → requestAt ns k ≡ getD (requestsOf ns) k d
+pub request-at : (ns : List ℕ) (k : ℕ) (d : Request) → k < length ns / requestWidth → requestAt ns k ≡ getD (requestsOf ns) k d
 request-at [] k d h = absurd (omega arith)
 request-at (i ∷ []) k d h = absurd (omega arith)
 request-at (i ∷ o ∷ []) k d h = absurd (omega arith)
@@ -29,13 +29,13 @@ request-at (i ∷ o ∷ v ∷ x ∷ ns) (suc k) d h = simp (suc-mul, unary-claus
 
 -- ---- three numbers an entry
 
-pub entry-count : (ns : List ℕ) → length (entriesOf ns) ≡ length ns / 3
+pub entry-count : (ns : List ℕ) → length (entriesOf ns) ≡ length ns / entryWidth
 entry-count [] = refl
 entry-count (k ∷ []) = refl
 entry-count (k ∷ i ∷ []) = refl
 entry-count (k ∷ i ∷ b ∷ ns) = omega (arith, entry-count ns)
 
-pub entry-at : (ns : List ℕ) (n : ℕ) (d : Entry) → n < length ns / 3 → entryAt ns n ≡ getD (entriesOf ns) n d
+pub entry-at : (ns : List ℕ) (n : ℕ) (d : Entry) → n < length ns / entryWidth → entryAt ns n ≡ getD (entriesOf ns) n d
 entry-at [] n d h = absurd (omega arith)
 entry-at (k ∷ []) n d h = absurd (omega arith)
 entry-at (k ∷ i ∷ []) n d h = absurd (omega arith)

@@ -1,7 +1,8 @@
--- The requests and the schedule's entries that lists of numbers name, for hosts that know no other types. Every number names something, so nothing more can be refused.
-use Prim.Native.Nat.{ℕ, _+_, _*_}
-use mathlib.Core.Bool.{cond}
+-- The requests and the schedule's entries that lists of numbers name, for hosts that know no other types. Every number names something: only a list's length can be wrong.
+use Prim.Native.Nat.{ℕ, _+_, _*_, _%_}
+use mathlib.Core.Bool.{Bool, cond}
 use mathlib.Core.List.{List, [], _∷_}
+use lib.ListN.{length}
 use lib.Dec.{eqb}
 use Rattle.protocol_types.specs.Lists.{at}
 use Rattle.protocol_types.specs.declared.Operation.{Operation}
@@ -9,6 +10,20 @@ use Rattle.protocol_types.specs.declared.Operation.the-variants.{Read, Write}
 use Rattle.protocol_types.specs.declared.Request.{Request}
 use Rattle.protocol_types.specs.declared.Entry.{Entry}
 use Rattle.protocol_types.specs.declared.Entry.the-variants.{Fetch, WriteBack, Drop, Complete, CompleteByBroadcast}
+
+-- ---- records
+
+-- a request is four numbers: processor, operation, variable, value
+abbrev pub requestWidth : ℕ
+requestWidth = 4
+
+-- a schedule's entry is three: kind, processor, block
+abbrev pub entryWidth : ℕ
+entryWidth = 3
+
+-- the numbers are a whole number of records of k numbers each
+unfoldable pub whole : ℕ → List ℕ → Bool
+whole k ns = eqb (length ns % k) 0
 
 -- ---- requests
 
@@ -22,9 +37,10 @@ requestOf i o v x = record { processor = i; operation = operationOf o v x }
 
 -- the request of the four numbers from number 4 k on
 abbrev pub requestAt : List ℕ → ℕ → Request
-requestAt ns k = requestOf (at ns (k * 4)) (at ns (k * 4 + 1)) (at ns (k * 4 + 2)) (at ns (k * 4 + 3))
+requestAt ns k =
+    requestOf (at ns (k * requestWidth)) (at ns (k * requestWidth + 1)) (at ns (k * requestWidth + 2)) (at ns (k * requestWidth + 3))
 
--- four numbers at a time; fewer than four at the end name no request
+-- four numbers at a time; fewer than four at the end name no request, and the host entries refuse such a list by 2
 abbrev pub requestsOf : List ℕ → List Request
 requestsOf [] = []
 requestsOf (i ∷ []) = []
@@ -43,9 +59,9 @@ entryOf k i b =
 
 -- the entry of the three numbers from number 3 k on
 abbrev pub entryAt : List ℕ → ℕ → Entry
-entryAt ns k = entryOf (at ns (k * 3)) (at ns (k * 3 + 1)) (at ns (k * 3 + 2))
+entryAt ns k = entryOf (at ns (k * entryWidth)) (at ns (k * entryWidth + 1)) (at ns (k * entryWidth + 2))
 
--- three numbers at a time; fewer than three at the end name no entry
+-- three numbers at a time; fewer than three at the end name no entry, and the host entries refuse such a list by 2
 abbrev pub entriesOf : List ℕ → List Entry
 entriesOf [] = []
 entriesOf (k ∷ []) = []

@@ -7,13 +7,21 @@ use protocol_types::Variable;
 ghost use mathlib.Core.Path.{_≡_};
 ghost use Prim.Native.Nat.{_/_, _<_};
 ghost use lib.ListN.{length};
-ghost use Rattle.host_decoding.specs.Records.{operationOf, requestOf, requestAt, requestsOf, entryOf, entryAt, entriesOf};
+ghost use Rattle.host_decoding.specs.Records.{requestWidth, entryWidth, whole, operationOf, requestOf, requestAt, requestsOf, entryOf, entryAt, entriesOf};
 
 // How many numbers name a request.
-const REQUEST_WIDTH: usize = 4;
+pub const REQUEST_WIDTH: usize = 4;
 
 // How many numbers name an entry.
-const ENTRY_WIDTH: usize = 3;
+pub const ENTRY_WIDTH: usize = 3;
+
+// Whether a list of numbers is a whole number of records of `width` numbers each.
+pub fn is_whole(numbers: &[u32], width: usize) -> bool
+    requires { ⌜ 0 < width ⌝ }
+    ensures { λ r. ⌜ r ≡ whole width (now (numbers .entry)) ⌝ }
+{
+    numbers.len() % width == 0
+}
 
 // How many requests a list of numbers names.
 pub fn request_count(numbers: &[u32]) -> usize
@@ -45,7 +53,7 @@ fn request_of(processor: u32, operation: u32, variable: u32, value: u32) -> Requ
 
 // Request i of a list of numbers.
 pub fn request_at(numbers: &[u32], i: usize) -> Request
-    requires { ⌜ i < length (now numbers) / 4 ⌝ }
+    requires { ⌜ i < length (now numbers) / requestWidth ⌝ }
     ensures { λ r. ⌜ r ≡ requestAt (now (numbers .entry)) i ⌝ }
 {
     let k = i * REQUEST_WIDTH;
@@ -80,7 +88,7 @@ fn entry_of(kind: u32, processor: u32, block: u32) -> Entry
 
 // Entry i of a list of numbers.
 pub fn entry_at(numbers: &[u32], i: usize) -> Entry
-    requires { ⌜ i < length (now numbers) / 3 ⌝ }
+    requires { ⌜ i < length (now numbers) / entryWidth ⌝ }
     ensures { λ r. ⌜ r ≡ entryAt (now (numbers .entry)) i ⌝ }
 {
     let k = i * ENTRY_WIDTH;

@@ -1,22 +1,41 @@
--- The pricer's loop laws (Rattle.rival_pricer.proofs.Loop) where the entries and the requests are numbers. Assumes nothing.
-use Prim.Native.Nat.{ℕ, _+_, _*_, _/_, _<_}
-use mathlib.Core.Path.{_≡_, sym, ap, _∙_, subst}
+-- The two cases of a price over numbers, and the pricer's loop laws (Rattle.rival_pricer.proofs.Loop) where the entries and the requests are numbers. Assumes nothing.
+use Prim.Native.Nat.{ℕ, _/_, _<_}
+use mathlib.Core.Path.{_≡_, refl, sym, ap, _∙_, subst}
 use mathlib.Core.Bool.{true, false}
 use mathlib.Core.List.{List}
 use native.Mathlib.Omega.{arith}
 use lib.ListN.{length, getD}
-use Rattle.protocol_types.specs.Lists.{at}
 use Rattle.protocol.specs.Rival.{Rival}
+use Rattle.protocol.specs.Pricer.{price, priceTables}
 use Rattle.protocol_types.specs.declared.Setup.{Setup}
 use Rattle.protocol_types.specs.declared.Request.{Request}
 use Rattle.protocol_types.specs.declared.Entry.{Entry}
+use Rattle.protocol_types.specs.declared.PriceAnswer.{PriceAnswer}
+use Rattle.protocol_types.specs.declared.PriceAnswer.the-variants.{Refused}
 use Rattle.protocol_types.proofs.Conditions.{no-request}
 use Rattle.rival_pricing.specs.Stages.{PriceStage, priceBegun, took, completed}
 use Rattle.rival_pricer.proofs.Loop.{no-entry, Inv, μ, inv-start, at-entry, inv-took, falls-took, at-request, inv-completed, falls-completed}
-use Rattle.host_decoding.specs.Records.{requestOf, requestsOf, entryOf, entriesOf}
+use Rattle.host_decoding.specs.Records.{requestWidth, requestAt, requestsOf, entryWidth, entryAt, entriesOf}
 use Rattle.host_decoding.proofs.Decoding.{request-count, request-at as request-is, entry-count, entry-at as entry-is}
+use Rattle.host_numbers.specs.Numbers.{partialRefusal, bothWhole, priceOfNumbers, priceTablesOfNumbers}
 
 module _ (s : Setup) (r : Rival) (ms ns : List ℕ) where
+  -- ---- lists that are whole, and lists of which one is not
+
+  -- the answer and the tables
+  abbrev Priced : PriceAnswer → Rival → Type 0
+  Priced p y = (p ≡ priceOfNumbers s r ns ms) × (y ≡ priceTablesOfNumbers s r ns ms)
+
+  pub price-whole : bothWhole ns ms ≡ true → Priced (price s r (requestsOf ns) (entriesOf ms)) (priceTables s r (requestsOf ns) (entriesOf ms))
+  unfolding priceOfNumbers priceTablesOfNumbers
+  price-whole e = rw e (refl, refl)
+
+  pub price-partial : bothWhole ns ms ≡ false → Priced (Refused (partialRefusal s) 0) r
+  unfolding priceOfNumbers priceTablesOfNumbers
+  price-partial e = rw e (refl, refl)
+
+  -- ---- the loop
+
   abbrev pub Invariant : PriceStage → Type 0
   Invariant x = Inv s r (entriesOf ms) (requestsOf ns) x
 
@@ -33,11 +52,11 @@ module _ (s : Setup) (r : Rival) (ms ns : List ℕ) where
       abbrev a : ℕ
       a = x .progress .at
 
-      pub entry-within : a < length ms / 3
+      pub entry-within : a < length ms / entryWidth
       entry-within = omega (arith, at-entry s r (entriesOf ms) (requestsOf ns) x i go, entry-count ms)
 
       -- the stage after the entry at the place
-      module _ (e : Entry) (is : e ≡ entryOf (at ms (a * 3)) (at ms (a * 3 + 1)) (at ms (a * 3 + 2))) (y : PriceStage) (after : y ≡ took s x e) where
+      module _ (e : Entry) (is : e ≡ entryAt ms a) (y : PriceStage) (after : y ≡ took s x e) where
         taken : took s x (getD (entriesOf ms) a no-entry) ≡ y
         taken = ap (took s x) (sym (is ∙ entry-is ms a no-entry entry-within)) ∙ sym after
 
@@ -53,11 +72,11 @@ module _ (s : Setup) (r : Rival) (ms ns : List ℕ) where
       abbrev k : ℕ
       k = x .progress .next
 
-      pub request-within : k < length ns / 4
+      pub request-within : k < length ns / requestWidth
       request-within = omega (arith, at-request s r (entriesOf ms) (requestsOf ns) x i go flag, request-count ns)
 
       -- the stage after the request at the place
-      module _ (q : Request) (is : q ≡ requestOf (at ns (k * 4)) (at ns (k * 4 + 1)) (at ns (k * 4 + 2)) (at ns (k * 4 + 3))) (y : PriceStage) (after : y ≡ completed s x q) where
+      module _ (q : Request) (is : q ≡ requestAt ns k) (y : PriceStage) (after : y ≡ completed s x q) where
         done : completed s x (getD (requestsOf ns) k no-request) ≡ y
         done = ap (completed s x) (sym (is ∙ request-is ns k no-request request-within)) ∙ sym after
 

@@ -1,25 +1,38 @@
--- A run's loop laws (Rattle.run_steps.proofs.Loop) where the requests are numbers. Assumes nothing.
-use Prim.Native.Nat.{ℕ, _+_, _*_, _/_, _<_}
+-- The two cases of a run over numbers, and a run's loop laws (Rattle.run_steps.proofs.Loop) where the requests are numbers. Assumes nothing.
+use Prim.Native.Nat.{ℕ, _/_, _<_}
 use mathlib.Core.Path.{_≡_, sym, ap, _∙_, subst}
-use mathlib.Core.Bool.{true}
+use mathlib.Core.Bool.{true, false}
 use mathlib.Core.List.{List}
 use native.Mathlib.Omega.{arith}
 use lib.ListN.{length, getD}
-use Rattle.protocol_types.specs.Lists.{at}
 use Rattle.protocol.specs.Tables.{Tables}
 use Rattle.protocol.specs.Accounts.{nothing}
 use Rattle.protocol_types.specs.declared.Setup.{Setup}
 use Rattle.protocol_types.specs.declared.Account.{Account}
 use Rattle.protocol_types.specs.declared.Request.{Request}
+use Rattle.protocol.specs.Engines.{endedBy, run}
 use Rattle.protocol.specs.Runs.{runRefusal, engine}
 use Rattle.protocol_types.proofs.Conditions.{no-request}
 use Rattle.run_progress.specs.Progress.{Room, RunStage, runStage, begun, turned}
 use Rattle.run_progress.proofs.Loop.{Small}
 use Rattle.run_steps.proofs.Loop.{Inv, μ, inv-start, inv-within, inv-turn, inv-falls}
-use Rattle.host_decoding.specs.Records.{requestOf, requestsOf}
+use Rattle.host_decoding.specs.Records.{requestWidth, whole, requestAt, requestsOf}
 use Rattle.host_decoding.proofs.Decoding.{request-count, request-at}
+use Rattle.host_numbers.specs.Numbers.{partialRefusal, runNumbers}
 
 module _ (s : Setup) (t : Tables) (a : Account) (ns : List ℕ) (vs : List ℕ) where
+  -- ---- a list that is whole, and one that is not
+
+  pub run-whole : whole requestWidth ns ≡ true → run (engine s) t a (requestsOf ns) vs ≡ runNumbers s t a ns vs
+  unfolding runNumbers
+  run-whole e = rw e
+
+  pub run-partial : whole requestWidth ns ≡ false → endedBy (partialRefusal s) t a vs ≡ runNumbers s t a ns vs
+  unfolding runNumbers
+  run-partial e = rw e
+
+  -- ---- the loop
+
   pub begins : Room a 0 nothing → (n : ℕ) → n ≡ length (requestsOf ns) → Inv s t a (requestsOf ns) vs (runStage (begun (runRefusal s t a n vs) a n) t vs)
   begins h n e =
       let small : Small a = (omega (arith, h .requests), (omega (arith, h .fetch), (omega (arith, h .write-back), omega (arith, h .update)))) in
@@ -29,11 +42,11 @@ module _ (s : Setup) (t : Tables) (a : Account) (ns : List ℕ) (vs : List ℕ) 
     abbrev k : ℕ
     k = x .progress .answer .taken
 
-    pub within : k < length ns / 4
+    pub within : k < length ns / requestWidth
     within = omega (arith, inv-within s t a (requestsOf ns) vs x i go, request-count ns)
 
     -- the stage after the request at the place
-    module _ (q : Request) (is : q ≡ requestOf (at ns (k * 4)) (at ns (k * 4 + 1)) (at ns (k * 4 + 2)) (at ns (k * 4 + 3))) (y : RunStage Tables) (after : y ≡ turned (engine s) x q) where
+    module _ (q : Request) (is : q ≡ requestAt ns k) (y : RunStage Tables) (after : y ≡ turned (engine s) x q) where
       next : turned (engine s) x (getD (requestsOf ns) k no-request) ≡ y
       next = ap (turned (engine s) x) (sym (is ∙ request-at ns k no-request within)) ∙ sym after
 

@@ -1,4 +1,4 @@
-// A run and a schedule's price over plain numbers: requests and entries are decoded as they are reached.
+// A run and a schedule's price over plain numbers: lists that are not whole are refused, requests and entries are decoded as they are reached.
 use protocol_types::Account;
 use protocol_types::PriceAnswer;
 use protocol_types::RunAnswer;
@@ -12,7 +12,7 @@ ghost use Rattle.protocol.specs.Accounts.{nothing};
 ghost use Rattle.rival_copies.specs.Copies.{rivalBefore, rivalAfter};
 ghost use Rattle.run_progress.specs.Progress.{Room, outcome};
 ghost use Rattle.host_decoding.specs.Records.{requestsOf, entriesOf};
-ghost use Rattle.host_numbers.specs.Numbers.{accountOf};
+ghost use Rattle.host_numbers.specs.Numbers.{accountOf, partialRefusal, runNumbers, bothWhole, priceOfNumbers, priceTablesOfNumbers};
 
 // What a run answers, and the account after it.
 pub struct Ran {
@@ -32,8 +32,19 @@ fn account_of(requests: u32, fetch: u32, write_back: u32, update: u32) -> Accoun
     }
 }
 
-// A run: the requests in turn, to the first refused one.
-pub fn run(
+// The refusal number of a list that is not whole: 1, or else 2.
+fn partial_refusal(setup: Setup) -> u32
+    ensures { λ r. ⌜ r ≡ partialRefusal setup ⌝ }
+{
+    let refusal = setup.refusal();
+    if refusal != protocol_types::NO_REFUSAL {
+        return refusal;
+    }
+    protocol_types::WRONG_LENGTH
+}
+
+// The requests in turn, to the first refused one.
+fn run_requests(
     setup: Setup,
     blocks: &mut [u32],
     counters: &mut [u32],
@@ -87,8 +98,56 @@ pub fn run(
     }
 }
 
-// The price of a schedule for the requests: played entry by entry from empty caches, to the first refused one.
-pub fn price(
+// A run: of a whole list alone.
+pub fn run(
+    setup: Setup,
+    blocks: &mut [u32],
+    counters: &mut [u32],
+    marks: &mut [u32],
+    words: &mut [u32],
+    memory: &mut [u32],
+    account: Account,
+    requests: &[u32],
+    values: &mut [u32],
+) -> Ran
+    ensures { λ r. ⌜ outcome (r .answer) (after blocks counters marks words memory) (r .account) (now (values .exit))
+        ≡ runNumbers setup (before blocks counters marks words memory) account (now (requests .entry)) (now (values .entry)) ⌝ }
+{
+    if !host_decoding::is_whole(requests, host_decoding::REQUEST_WIDTH) {
+        return Ran {
+            answer: RunAnswer {
+                taken: 0,
+                refusal: partial_refusal(setup),
+                place: 0,
+            },
+            account: account,
+        };
+    }
+    run_requests(
+        setup,
+        blocks,
+        counters,
+        marks,
+        words,
+        memory,
+        account,
+        requests,
+        values,
+    )
+}
+
+// Whether both lists of a price are whole.
+fn are_whole(entries: &[u32], requests: &[u32]) -> bool
+    ensures { λ r. ⌜ r ≡ bothWhole (now (requests .entry)) (now (entries .entry)) ⌝ }
+{
+    if !host_decoding::is_whole(requests, host_decoding::REQUEST_WIDTH) {
+        return false;
+    }
+    host_decoding::is_whole(entries, host_decoding::ENTRY_WIDTH)
+}
+
+// A schedule is played entry by entry from empty caches, to the first refused one.
+fn price_schedule(
     setup: Setup,
     blocks: &mut [u32],
     held: &mut [u32],
@@ -113,4 +172,22 @@ pub fn price(
         }
     }
     p.answer
+}
+
+// The price of a schedule for the requests: of whole lists alone.
+pub fn price(
+    setup: Setup,
+    blocks: &mut [u32],
+    held: &mut [u32],
+    marks: &mut [u32],
+    entries: &[u32],
+    requests: &[u32],
+) -> PriceAnswer
+    ensures { λ r. ⌜ (r ≡ priceOfNumbers setup (rivalBefore blocks held marks) (now (requests .entry)) (now (entries .entry)))
+        × (rivalAfter blocks held marks ≡ priceTablesOfNumbers setup (rivalBefore blocks held marks) (now (requests .entry)) (now (entries .entry))) ⌝ }
+{
+    if !are_whole(entries, requests) {
+        return PriceAnswer::Refused(partial_refusal(setup), 0);
+    }
+    price_schedule(setup, blocks, held, marks, entries, requests)
 }
