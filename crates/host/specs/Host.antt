@@ -1,4 +1,4 @@
--- The records of the specification from a host's plain numbers.
+-- The version of the host entries, and the records of the specification from a host's plain numbers.
 use Prim.Native.Nat.{ℕ}
 use mathlib.Core.Path.{_≡_}
 use denote.Ref.{RefT, now}
@@ -11,6 +11,10 @@ use Rattle.protocol_types.specs.declared.Block.{Block}
 use Rattle.protocol_types.specs.declared.Account.{Account}
 use Rattle.host_numbers.specs.Numbers.{accountOf}
 use Rattle.trace_lines.specs.Trace.{Ended}
+
+-- it counts the changes of the exported functions' signatures and meanings, from 1 on
+abbrev pub hostVersion : ℕ
+hostVersion = 1
 
 -- n processors, l lines in each cache, p words in a block, m blocks
 abbrev pub setupOf : ℕ → ℕ → ℕ → ℕ → Setup

@@ -5,15 +5,25 @@ use protocol_types::PriceAnswer;
 use protocol_types::Setup;
 ghost use mathlib.Core.Path.{_≡_};
 ghost use Rattle.protocol.specs.Lent.{before, after};
-ghost use Rattle.protocol.specs.Engines.{answered, run as ran};
-ghost use Rattle.protocol.specs.Runs.{startRefusal, started, engine};
-ghost use Rattle.protocol.specs.Pricer.{price as priced, priceTables, numberOf, placeOf, costOf};
+ghost use Rattle.protocol.specs.Engines.{answered};
+ghost use Rattle.protocol.specs.Runs.{startRefusal, started};
+ghost use Rattle.protocol.specs.Pricer.{numberOf, placeOf, costOf};
 ghost use Rattle.rival_copies.specs.Copies.{rivalBefore, rivalAfter};
 ghost use Rattle.run_progress.specs.Progress.{outcome};
 ghost use Rattle.trace_lines.specs.Trace.{endedOn};
-ghost use Rattle.host_decoding.specs.Records.{requestsOf, entriesOf};
 ghost use Rattle.host_looks.specs.Looks.{lookLength, lookOffset};
-ghost use Rattle.host.specs.Host.{setupOf, accountBefore, accountAfter, blockNumbered, reportOf, Told};
+ghost use Rattle.host_numbers.specs.Numbers.{runNumbers, priceOfNumbers, priceTablesOfNumbers};
+ghost use Rattle.host.specs.Host.{hostVersion, setupOf, accountBefore, accountAfter, blockNumbered, reportOf, Told};
+
+const VERSION: u32 = 1;
+
+// The version of these functions, by which a host can tell whether it was built for them.
+#[no_mangle]
+pub extern "C" fn cuzkelor_version() -> u32
+    ensures { λ r. ⌜ r ≡ hostVersion ⌝ }
+{
+    VERSION
+}
 
 // A setup by its four numbers.
 fn setup_of(processors: u32, lines: u32, block_words: u32, block_count: u32) -> Setup
@@ -111,9 +121,9 @@ pub extern "C" fn cuzkelor_run(
 ) -> u32
     ensures { λ r. ⌜ outcome (answered (now (taken .exit)) r (now (place .exit)))
         (after blocks counters marks words memory) (accountAfter «account_requests» «account_fetch» «account_write_back» «account_update») (now (values .exit))
-        ≡ ran (engine (setupOf processors lines «block_words» «block_count»))
+        ≡ runNumbers (setupOf processors lines «block_words» «block_count»)
         (before blocks counters marks words memory) (accountBefore «account_requests» «account_fetch» «account_write_back» «account_update»)
-        (requestsOf (now (requests .entry))) (now (values .entry)) ⌝ }
+        (now (requests .entry)) (now (values .entry)) ⌝ }
 {
     let setup = setup_of(processors, lines, block_words, block_count);
     let account = Account {
@@ -187,10 +197,10 @@ pub extern "C" fn cuzkelor_price(
     place: &mut usize,
     cost: &mut u32,
 ) -> u32
-    ensures { λ r. ⌜ Told (priced (setupOf processors lines «block_words» «block_count») (rivalBefore blocks held marks)
-        (requestsOf (now (requests .entry))) (entriesOf (now (entries .entry)))) r (now (place .exit)) (now (cost .exit)) ⌝ }
-    ensures { λ _. ⌜ rivalAfter blocks held marks ≡ priceTables (setupOf processors lines «block_words» «block_count») (rivalBefore blocks held marks)
-        (requestsOf (now (requests .entry))) (entriesOf (now (entries .entry))) ⌝ }
+    ensures { λ r. ⌜ Told (priceOfNumbers (setupOf processors lines «block_words» «block_count») (rivalBefore blocks held marks)
+        (now (requests .entry)) (now (entries .entry))) r (now (place .exit)) (now (cost .exit)) ⌝ }
+    ensures { λ _. ⌜ rivalAfter blocks held marks ≡ priceTablesOfNumbers (setupOf processors lines «block_words» «block_count») (rivalBefore blocks held marks)
+        (now (requests .entry)) (now (entries .entry)) ⌝ }
 {
     let setup = setup_of(processors, lines, block_words, block_count);
     let answer = host_numbers::price(setup, blocks, held, marks, entries, requests);

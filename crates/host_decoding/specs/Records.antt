@@ -1,10 +1,13 @@
 -- The requests and the schedule's entries that lists of numbers name, for hosts that know no other types. Every number names something: only a list's length can be wrong.
 use Prim.Native.Nat.{ℕ, _+_, _*_, _%_}
-use mathlib.Core.Bool.{Bool, cond}
+use mathlib.Core.Bool.{Bool, _&&_, cond}
 use mathlib.Core.List.{List, [], _∷_}
 use lib.ListN.{length}
 use lib.Dec.{eqb}
 use Rattle.protocol_types.specs.Lists.{at}
+use Rattle.protocol_types.specs.Refusals.{firstOf, wrongLength}
+use Rattle.protocol_types.specs.Board.{setupRefusal}
+use Rattle.protocol_types.specs.declared.Setup.{Setup}
 use Rattle.protocol_types.specs.declared.Operation.{Operation}
 use Rattle.protocol_types.specs.declared.Operation.the-variants.{Read, Write}
 use Rattle.protocol_types.specs.declared.Request.{Request}
@@ -24,6 +27,14 @@ entryWidth = 3
 -- the numbers are a whole number of records of k numbers each
 unfoldable pub whole : ℕ → List ℕ → Bool
 whole k ns = eqb (length ns % k) 0
+
+-- both lists of a price: the requests' numbers ns and the entries' numbers ms
+abbrev pub bothWhole : List ℕ → List ℕ → Bool
+bothWhole ns ms = whole requestWidth ns && whole entryWidth ms
+
+-- what refuses a list that is not whole: the setup's refusal, or else 2
+unfoldable pub partialRefusal : Setup → ℕ
+partialRefusal s = firstOf (setupRefusal s) wrongLength
 
 -- ---- requests
 

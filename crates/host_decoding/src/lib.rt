@@ -1,13 +1,14 @@
-// Requests and a schedule's entries, read from lists of numbers.
+// Requests and a schedule's entries, read from lists of numbers, and what refuses a list that is not whole.
 use protocol_types::Block;
 use protocol_types::Entry;
 use protocol_types::Operation;
 use protocol_types::Request;
+use protocol_types::Setup;
 use protocol_types::Variable;
 ghost use mathlib.Core.Path.{_≡_};
 ghost use Prim.Native.Nat.{_/_, _<_};
 ghost use lib.ListN.{length};
-ghost use Rattle.host_decoding.specs.Records.{requestWidth, entryWidth, whole, operationOf, requestOf, requestAt, requestsOf, entryOf, entryAt, entriesOf};
+ghost use Rattle.host_decoding.specs.Records.{requestWidth, entryWidth, whole, bothWhole, partialRefusal, operationOf, requestOf, requestAt, requestsOf, entryOf, entryAt, entriesOf};
 
 // How many numbers name a request.
 pub const REQUEST_WIDTH: usize = 4;
@@ -21,6 +22,27 @@ pub fn is_whole(numbers: &[u32], width: usize) -> bool
     ensures { λ r. ⌜ r ≡ whole width (now (numbers .entry)) ⌝ }
 {
     numbers.len() % width == 0
+}
+
+// Whether lists of requests and of entries are both whole.
+pub fn are_whole(requests: &[u32], entries: &[u32]) -> bool
+    ensures { λ r. ⌜ r ≡ bothWhole (now (requests .entry)) (now (entries .entry)) ⌝ }
+{
+    if !is_whole(requests, REQUEST_WIDTH) {
+        return false;
+    }
+    is_whole(entries, ENTRY_WIDTH)
+}
+
+// The refusal number of a list that is not whole: the setup's, or else 2.
+pub fn partial_refusal(setup: Setup) -> u32
+    ensures { λ r. ⌜ r ≡ partialRefusal setup ⌝ }
+{
+    let refusal = setup.refusal();
+    if refusal != protocol_types::NO_REFUSAL {
+        return refusal;
+    }
+    protocol_types::WRONG_LENGTH
 }
 
 // How many requests a list of numbers names.

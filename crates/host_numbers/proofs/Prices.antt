@@ -15,9 +15,9 @@ use Rattle.protocol_types.specs.declared.PriceAnswer.the-variants.{Refused}
 use Rattle.protocol_types.proofs.Conditions.{no-request}
 use Rattle.rival_pricing.specs.Stages.{PriceStage, priceBegun, took, completed}
 use Rattle.rival_pricer.proofs.Loop.{no-entry, Inv, μ, inv-start, at-entry, inv-took, falls-took, at-request, inv-completed, falls-completed}
-use Rattle.host_decoding.specs.Records.{requestWidth, requestAt, requestsOf, entryWidth, entryAt, entriesOf}
+use Rattle.host_decoding.specs.Records.{bothWhole, partialRefusal, requestWidth, requestAt, requestsOf, entryWidth, entryAt, entriesOf}
 use Rattle.host_decoding.proofs.Decoding.{request-count, request-at as request-is, entry-count, entry-at as entry-is}
-use Rattle.host_numbers.specs.Numbers.{partialRefusal, bothWhole, priceOfNumbers, priceTablesOfNumbers}
+use Rattle.host_numbers.specs.Numbers.{priceOfNumbers, priceTablesOfNumbers}
 
 module _ (s : Setup) (r : Rival) (ms ns : List ℕ) where
   -- ---- lists that are whole, and lists of which one is not

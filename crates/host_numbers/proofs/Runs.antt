@@ -16,9 +16,9 @@ use Rattle.protocol_types.proofs.Conditions.{no-request}
 use Rattle.run_progress.specs.Progress.{Room, RunStage, runStage, begun, turned}
 use Rattle.run_progress.proofs.Loop.{Small}
 use Rattle.run_steps.proofs.Loop.{Inv, μ, inv-start, inv-within, inv-turn, inv-falls}
-use Rattle.host_decoding.specs.Records.{requestWidth, whole, requestAt, requestsOf}
+use Rattle.host_decoding.specs.Records.{requestWidth, whole, partialRefusal, requestAt, requestsOf}
 use Rattle.host_decoding.proofs.Decoding.{request-count, request-at}
-use Rattle.host_numbers.specs.Numbers.{partialRefusal, runNumbers}
+use Rattle.host_numbers.specs.Numbers.{runNumbers}
 
 module _ (s : Setup) (t : Tables) (a : Account) (ns : List ℕ) (vs : List ℕ) where
   -- ---- a list that is whole, and one that is not

@@ -1,9 +1,7 @@
 -- An account as plain numbers, and the run and the price where requests and entries are numbers, for hosts that know no other types.
 use Prim.Native.Nat.{ℕ}
-use mathlib.Core.Bool.{Bool, _&&_, cond}
+use mathlib.Core.Bool.{cond}
 use mathlib.Core.List.{List}
-use Rattle.protocol_types.specs.Refusals.{firstOf, wrongLength}
-use Rattle.protocol_types.specs.Board.{setupRefusal}
 use Rattle.protocol.specs.Tables.{Tables}
 use Rattle.protocol.specs.Engines.{Outcome, endedBy, run}
 use Rattle.protocol.specs.Runs.{engine}
@@ -13,15 +11,11 @@ use Rattle.protocol_types.specs.declared.Setup.{Setup}
 use Rattle.protocol_types.specs.declared.Account.{Account}
 use Rattle.protocol_types.specs.declared.PriceAnswer.{PriceAnswer}
 use Rattle.protocol_types.specs.declared.PriceAnswer.the-variants.{Refused}
-use Rattle.host_decoding.specs.Records.{requestWidth, entryWidth, whole, requestsOf, entriesOf}
+use Rattle.host_decoding.specs.Records.{requestWidth, whole, bothWhole, partialRefusal, requestsOf, entriesOf}
 
 -- requests taken, then fetch, write-back and update cycles
 abbrev pub accountOf : ℕ → ℕ → ℕ → ℕ → Account
 accountOf n f w u = record { requests = n; fetch = f; «write_back» = w; update = u }
-
--- what refuses a list that is not whole: 1, or else 2, before 5, 20 and 21
-unfoldable pub partialRefusal : Setup → ℕ
-partialRefusal s = firstOf (setupRefusal s) wrongLength
 
 -- ---- a run of the requests that the numbers ns name
 
@@ -30,9 +24,6 @@ runNumbers s t a ns vs =
     cond (whole requestWidth ns) (run (engine s) t a (requestsOf ns) vs) (endedBy (partialRefusal s) t a vs)
 
 -- ---- the price, for the requests that the numbers ns name, of the schedule that the numbers ms name
-
-abbrev pub bothWhole : List ℕ → List ℕ → Bool
-bothWhole ns ms = whole requestWidth ns && whole entryWidth ms
 
 unfoldable pub priceOfNumbers : Setup → Rival → List ℕ → List ℕ → PriceAnswer
 priceOfNumbers s lent ns ms =

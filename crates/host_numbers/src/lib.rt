@@ -12,7 +12,7 @@ ghost use Rattle.protocol.specs.Accounts.{nothing};
 ghost use Rattle.rival_copies.specs.Copies.{rivalBefore, rivalAfter};
 ghost use Rattle.run_progress.specs.Progress.{Room, outcome};
 ghost use Rattle.host_decoding.specs.Records.{requestsOf, entriesOf};
-ghost use Rattle.host_numbers.specs.Numbers.{accountOf, partialRefusal, runNumbers, bothWhole, priceOfNumbers, priceTablesOfNumbers};
+ghost use Rattle.host_numbers.specs.Numbers.{accountOf, runNumbers, priceOfNumbers, priceTablesOfNumbers};
 
 // What a run answers, and the account after it.
 pub struct Ran {
@@ -30,17 +30,6 @@ fn account_of(requests: u32, fetch: u32, write_back: u32, update: u32) -> Accoun
         write_back: write_back,
         update: update,
     }
-}
-
-// The refusal number of a list that is not whole: 1, or else 2.
-fn partial_refusal(setup: Setup) -> u32
-    ensures { λ r. ⌜ r ≡ partialRefusal setup ⌝ }
-{
-    let refusal = setup.refusal();
-    if refusal != protocol_types::NO_REFUSAL {
-        return refusal;
-    }
-    protocol_types::WRONG_LENGTH
 }
 
 // The requests in turn, to the first refused one.
@@ -117,7 +106,7 @@ pub fn run(
         return Ran {
             answer: RunAnswer {
                 taken: 0,
-                refusal: partial_refusal(setup),
+                refusal: host_decoding::partial_refusal(setup),
                 place: 0,
             },
             account: account,
@@ -134,16 +123,6 @@ pub fn run(
         requests,
         values,
     )
-}
-
-// Whether both lists of a price are whole.
-fn are_whole(entries: &[u32], requests: &[u32]) -> bool
-    ensures { λ r. ⌜ r ≡ bothWhole (now (requests .entry)) (now (entries .entry)) ⌝ }
-{
-    if !host_decoding::is_whole(requests, host_decoding::REQUEST_WIDTH) {
-        return false;
-    }
-    host_decoding::is_whole(entries, host_decoding::ENTRY_WIDTH)
 }
 
 // A schedule is played entry by entry from empty caches, to the first refused one.
@@ -186,8 +165,8 @@ pub fn price(
     ensures { λ r. ⌜ (r ≡ priceOfNumbers setup (rivalBefore blocks held marks) (now (requests .entry)) (now (entries .entry)))
         × (rivalAfter blocks held marks ≡ priceTablesOfNumbers setup (rivalBefore blocks held marks) (now (requests .entry)) (now (entries .entry))) ⌝ }
 {
-    if !are_whole(entries, requests) {
-        return PriceAnswer::Refused(partial_refusal(setup), 0);
+    if !host_decoding::are_whole(requests, entries) {
+        return PriceAnswer::Refused(host_decoding::partial_refusal(setup), 0);
     }
     price_schedule(setup, blocks, held, marks, entries, requests)
 }

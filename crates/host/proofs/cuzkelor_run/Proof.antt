@@ -2,11 +2,8 @@
 use mathlib.Core.Path.{ap, _∙_}
 use denote.Ref.{now}
 use Rattle.protocol.specs.Tables.{tables}
-use Rattle.protocol.specs.Engines.{run as ran}
-use Rattle.protocol.specs.Runs.{engine}
 use Rattle.protocol_types.specs.declared.Setup.{Setup}
-use Rattle.host_decoding.specs.Records.{requestsOf}
-use Rattle.host_numbers.specs.Numbers.{accountOf}
+use Rattle.host_numbers.specs.Numbers.{accountOf, runNumbers}
 use borrow.Author.Needs.{needs}
 use Rattle.host.proofs.cuzkelor_run.Statement.{statement}
 use Rattle.host.proofs.cuzkelor_run.Tie as tie
@@ -19,7 +16,7 @@ returns c =
     let a = start .args in
     let T = tables (now (a .blocks)) (now (a .counters)) (now (a .marks)) (now (a .words)) (now (a .memory)) in
     let before = accountOf (now (a .account-requests)) (now (a .account-fetch)) (now (a .account-write-back)) (now (a .account-update)) in
-    run′ .run .ensures ∙ ap (λ (s : Setup). ran (engine s) T before (requestsOf (now (a .requests))) (now (a .values))) (setup-of′ .setup-of .ensures)
+    run′ .run .ensures ∙ ap (λ (s : Setup). runNumbers s T before (now (a .requests)) (now (a .values))) (setup-of′ .setup-of .ensures)
 
 pub cuzkelor-run-spec : {M : Type 1} → statement M
 cuzkelor-run-spec =

@@ -2,8 +2,8 @@
 use borrow.Author.Needs.{needs}
 use mathlib.Core.Path.{refl}
 use Rattle.protocol_types.proofs.Laws.{failed, passed}
-use Rattle.host_numbers.proofs.are_whole.Statement.{statement}
-use Rattle.host_numbers.proofs.are_whole.Tie as tie
+use Rattle.host_decoding.proofs.are_whole.Statement.{statement}
+use Rattle.host_decoding.proofs.are_whole.Tie as tie
 
 returns : tie.Need-returns
 returns c = rw (failed (c .before .is-whole .ensures) (c .if1 .taken)) refl

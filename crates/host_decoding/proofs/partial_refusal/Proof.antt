@@ -3,9 +3,9 @@ use borrow.Author.Needs.{needs}
 use mathlib.Core.Path.{sym, _∙_}
 use Rattle.protocol_types.specs.Refusals.{wrongLength}
 use Rattle.protocol_types.proofs.Refusals.{first-refuses, first-passes}
-use Rattle.host_numbers.specs.Numbers.{partialRefusal}
-use Rattle.host_numbers.proofs.partial_refusal.Statement.{statement}
-use Rattle.host_numbers.proofs.partial_refusal.Tie as tie
+use Rattle.host_decoding.specs.Records.{partialRefusal}
+use Rattle.host_decoding.proofs.partial_refusal.Statement.{statement}
+use Rattle.host_decoding.proofs.partial_refusal.Tie as tie
 
 returns : tie.Need-returns
 unfolding partialRefusal
