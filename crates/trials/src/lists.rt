@@ -1,4 +1,4 @@
-// Lists of requests, four numbers each.
+// Lists of requests, four numbers each, and lengths of lists that are not whole.
 use crate::layout::REQUESTS;
 use protocol_types::Setup;
 use trials_cells::cells::Cells;
@@ -8,6 +8,7 @@ use trials_cells::cells::product;
 use trials_cells::cells::put;
 use trials_cells::cells::remainder;
 use trials_cells::cells::sum;
+use trials_cells::state::between;
 use trials_cells::state::draw;
 use trials_cells::state::word;
 
@@ -15,6 +16,30 @@ use trials_cells::state::word;
 pub const LISTS: u32 = 61;
 
 pub const REQUEST_WIDTH: u32 = 4;
+
+// Whether a list of so many numbers ends within a record of `width` numbers.
+pub(crate) fn partial(numbers: u32, width: u32) -> bool {
+    remainder(numbers, width) != 0
+}
+
+// So many numbers, or once in `every` times up to three more or fewer.
+pub(crate) fn perhaps_partial(cells: &mut Cells, numbers: u32, every: u32) -> u32 {
+    let roll = draw(cells, every);
+    let off = between(cells, 1, 3);
+    let more = draw(cells, 2) == 0;
+    if roll != 0 {
+        return numbers;
+    }
+    if more || numbers < off {
+        return sum(numbers, off);
+    }
+    less(numbers, off)
+}
+
+// How many numbers n requests have.
+pub(crate) fn numbers_of(n: u32) -> u32 {
+    product(n, REQUEST_WIDTH)
+}
 
 // A request. Only the number 1 stands for a write.
 pub struct Request {

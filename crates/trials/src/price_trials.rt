@@ -220,12 +220,9 @@ struct Priced {
     what: u32,
 }
 
-// How many numbers `count` entries have, and one or two after them that name none.
-fn numbers_of(count: u32, spare: u32) -> u32 {
-    sum(
-        product(count, rival::ENTRY_WIDTH),
-        spare % rival::ENTRY_WIDTH,
-    )
+// How many numbers `count` entries have.
+fn numbers_of(count: u32) -> u32 {
+    product(count, rival::ENTRY_WIDTH)
 }
 
 // A legal schedule has no place, and a refused one no cost.
@@ -242,18 +239,19 @@ fn price_answer(play: Play) -> Answer {
     asked::answer_of(0, 0, 0, play.cost, setups::fresh_account())
 }
 
-// The price of `count` entries in the model and by the entry.
-fn price_both(cells: &mut Cells, question: Question, count: u32) -> Priced {
+// The price of m numbers of entries in the model and by the entry.
+fn price_both(cells: &mut Cells, question: Question, m: u32) -> Priced {
     let setup = question.setup;
+    let n = question.numbers;
     run_trials::copy_tables(cells);
-    let play = rival::price(cells, setup, count, question.n);
+    let play = rival::price(cells, setup, m, n);
     let what = run_trials::compare(
         cells,
         state::PRICE,
         setup,
         setups::fresh_account(),
-        numbers_of(count, question.spare),
-        run_trials::numbers_of(question.n, question.spare),
+        m,
+        n,
         price_answer(play),
     );
     Priced {
@@ -269,8 +267,7 @@ fn run_fresh(cells: &mut Cells, setup: Setup, n: u32) -> Judged {
     let plan = Plan {
         setup: setup,
         account: setups::fresh_account(),
-        n: n,
-        spare: 0,
+        numbers: lists::numbers_of(n),
     };
     run_trials::run_both(cells, plan)
 }
@@ -338,31 +335,32 @@ fn pick_schedule(cells: &mut Cells, setup: Setup, n: u32) -> u32 {
     build(cells, setup, n, style, turns)
 }
 
-// What a schedule is drawn and priced for. `right` may be another setup than the one that the pricer is given.
+// What a schedule is drawn and priced for: n requests, and how many numbers of them are lent. `right` may be another setup than the one that
+// the pricer is given.
 struct Question {
     right: Setup,
     setup: Setup,
     n: u32,
-    spare: u32,
+    numbers: u32,
 }
 
 fn pick_question(cells: &mut Cells) -> Question {
     let right = setups::new_setup(cells);
     let n = draw(cells, lists::LISTS);
-    let spare = draw(cells, 4);
+    let numbers = lists::perhaps_partial(cells, lists::numbers_of(n), 16);
     let setup = setups::pick_lending(cells, right, n, 30, 20);
     Question {
         right: right,
         setup: setup,
         n: n,
-        spare: spare,
+        numbers: numbers,
     }
 }
 
-// A schedule of `count` entries is priced, and if it is legal the engine's bill is compared with its cost.
-fn judge_schedule(cells: &mut Cells, question: Question, count: u32, case: u32) {
+// A schedule of m numbers is priced, and if it is legal the engine's bill is compared with its cost.
+fn judge_schedule(cells: &mut Cells, question: Question, m: u32, case: u32) {
     let right = question.right;
-    let priced = price_both(cells, question, count);
+    let priced = price_both(cells, question, m);
     let play = priced.play;
     state::record(cells, state::PRICE, case, play.refusal, priced.what);
     if play.refusal != NO_REFUSAL {
@@ -376,5 +374,6 @@ pub(crate) fn price_case(cells: &mut Cells, case: u32) {
     let question = pick_question(cells);
     let right = question.right;
     let count = pick_schedule(cells, right, question.n);
-    judge_schedule(cells, question, count, case);
+    let m = lists::perhaps_partial(cells, numbers_of(count), 16);
+    judge_schedule(cells, question, m, case);
 }

@@ -10,6 +10,8 @@ use crate::board::set_counter;
 use crate::board::set_owner;
 use crate::layout::ENTRIES;
 use crate::lent;
+use crate::lists::REQUEST_WIDTH;
+use crate::lists::partial;
 use crate::lists::request_at;
 use crate::served::named_wrongly;
 use protocol_types::BLOCK_NOT_HELD;
@@ -132,10 +134,10 @@ fn moved(cells: &mut Cells, p: u32, entry: Move) -> u32 {
 // The cost of a write by processor i, which has block b: alone it marks the block.
 fn written(cells: &mut Cells, i: u32, b: u32, broadcast: bool) -> u32 {
     if broadcast {
-        return SETUP_OUT_OF_RANGE;
+        return 1;
     }
     if other_holder(cells, i, b) < PROCESSORS {
-        return SETUP_OUT_OF_RANGE;
+        return 1;
     }
     set_owner(cells, b, sum(i, 1));
     0
@@ -252,10 +254,13 @@ fn ended(play: Play, count: u32, n: u32) -> Play {
     play
 }
 
-// The refusal of the setup and of the pricer's tables.
-fn price_refusal(cells: &Cells, setup: Setup) -> u32 {
+// The refusal of the setup, of m numbers of entries and n of requests, and of the pricer's tables.
+fn price_refusal(cells: &Cells, setup: Setup, m: u32, n: u32) -> u32 {
     if lent::setup_wrong(setup) {
         return SETUP_OUT_OF_RANGE;
+    }
+    if partial(m, ENTRY_WIDTH) || partial(n, REQUEST_WIDTH) {
+        return WRONG_LENGTH;
     }
     if lent::lengths_wrong(cells, setup, 0, lent::PRICED) {
         return WRONG_LENGTH;
@@ -263,16 +268,26 @@ fn price_refusal(cells: &Cells, setup: Setup) -> u32 {
     NO_REFUSAL
 }
 
-// The price of a schedule of `count` entries for n requests, both too few to be refused for that. The lent tables become what they should
+// A schedule of `count` entries for n requests, played from empty caches to its end.
+fn played(cells: &mut Cells, setup: Setup, count: u32, n: u32) -> Play {
+    clear(cells);
+    ended(play_all(cells, setup, count, n), count, n)
+}
+
+// The price of a schedule of m numbers for requests of n numbers, both too few to be refused by 5. The lent tables become what they should
 // be after it: the rival's position, or 0 after a refusal.
-pub(crate) fn price(cells: &mut Cells, setup: Setup, count: u32, n: u32) -> Play {
-    let refusal = price_refusal(cells, setup);
+pub(crate) fn price(cells: &mut Cells, setup: Setup, m: u32, n: u32) -> Play {
+    let refusal = price_refusal(cells, setup, m, n);
     if refusal != NO_REFUSAL {
         return refused(new_play(), refusal, 0);
     }
-    clear(cells);
     lent::wipe_tables(cells, lent::PRICED);
-    let play = ended(play_all(cells, setup, count, n), count, n);
+    let play = played(
+        cells,
+        setup,
+        quotient(m, ENTRY_WIDTH),
+        quotient(n, REQUEST_WIDTH),
+    );
     if play.refusal != NO_REFUSAL {
         return play;
     }

@@ -18,7 +18,6 @@ use trials_cells::cells::Cells;
 use trials_cells::cells::copy;
 use trials_cells::cells::differences;
 use trials_cells::cells::less;
-use trials_cells::cells::product;
 use trials_cells::cells::put;
 use trials_cells::cells::quotient;
 use trials_cells::cells::sum;
@@ -170,12 +169,11 @@ pub struct Series {
     pub left: u32,
 }
 
-// A run: its setup and account, a list of n requests, and up to three numbers after it that name none.
+// A run: its setup and account, and how many numbers of the requests are lent.
 pub struct Plan {
     pub setup: Setup,
     pub account: Account,
-    pub n: u32,
-    pub spare: u32,
+    pub numbers: u32,
 }
 
 // What a run came to in the model: the account and the refusal; and what differed from it.
@@ -183,11 +181,6 @@ pub struct Judged {
     pub account: Account,
     pub refusal: u32,
     pub what: u32,
-}
-
-// How many numbers a list of n requests has, and some after it.
-pub(crate) fn numbers_of(n: u32, spare: u32) -> u32 {
-    sum(product(n, lists::REQUEST_WIDTH), spare)
 }
 
 fn run_answer(outcome: Outcome) -> Answer {
@@ -215,8 +208,8 @@ pub(crate) fn run_both(cells: &mut Cells, plan: Plan) -> Judged {
     let setup = plan.setup;
     let account = plan.account;
     copy_tables(cells);
-    let outcome = served::run(cells, setup, account, plan.n);
-    let n = numbers_of(plan.n, plan.spare);
+    let n = plan.numbers;
+    let outcome = served::run(cells, setup, account, n);
     let what = compare(cells, state::RUN, setup, account, 0, n, run_answer(outcome));
     judged_of(outcome, what)
 }
@@ -324,19 +317,18 @@ fn next_series(cells: &mut Cells, at: Series, case: u32) -> Series {
     next
 }
 
-// The next run of a list: perhaps with a wrong length, or at a wrong setup.
+// The next run of a list: perhaps with a list that is not whole, with a wrong length, or at a wrong setup.
 fn pick_plan(cells: &mut Cells, at: Series) -> Plan {
     let right = at.setup;
     let account = at.account;
     let n = draw(cells, lists::LISTS);
-    let spare = draw(cells, 4);
+    let numbers = lists::perhaps_partial(cells, lists::numbers_of(n), 8);
     lists::pick_requests(cells, right, n, 100);
     let setup = setups::pick_lending(cells, right, n, 24, 12);
     Plan {
         setup: setup,
         account: account,
-        n: n,
-        spare: spare,
+        numbers: numbers,
     }
 }
 

@@ -16,7 +16,9 @@ use crate::layout::MOST_REQUESTS;
 use crate::layout::MOST_WORDS;
 use crate::layout::WANTED;
 use crate::lent;
+use crate::lists::REQUEST_WIDTH;
 use crate::lists::Request;
+use crate::lists::partial;
 use crate::lists::request_at;
 use protocol_types::ACCOUNT_FULL;
 use protocol_types::Account;
@@ -256,12 +258,15 @@ fn take_all(cells: &mut Cells, setup: Setup, n: u32, account: Account) -> Outcom
     so_far
 }
 
-// The refusal of a run of n requests as a whole; the facts become what the tables show.
-fn run_refusal(cells: &mut Cells, setup: Setup, account: Account, n: u32) -> u32 {
+// The refusal of a run of so many numbers as a whole; the facts become what the tables show.
+fn run_refusal(cells: &mut Cells, setup: Setup, account: Account, numbers: u32) -> u32 {
     if lent::setup_wrong(setup) {
         return SETUP_OUT_OF_RANGE;
     }
-    if lent::lengths_wrong(cells, setup, n, lent::ALL) {
+    if partial(numbers, REQUEST_WIDTH) {
+        return WRONG_LENGTH;
+    }
+    if lent::lengths_wrong(cells, setup, quotient(numbers, REQUEST_WIDTH), lent::ALL) {
         return WRONG_LENGTH;
     }
     if lent::load(cells, setup) > 0 {
@@ -273,13 +278,13 @@ fn run_refusal(cells: &mut Cells, setup: Setup, account: Account, n: u32) -> u32
     NO_REFUSAL
 }
 
-// A run of n requests over lent tables, which become what they should be after it.
-pub(crate) fn run(cells: &mut Cells, setup: Setup, account: Account, n: u32) -> Outcome {
-    let refusal = run_refusal(cells, setup, account, n);
+// A run of so many numbers over lent tables, which become what they should be after it.
+pub(crate) fn run(cells: &mut Cells, setup: Setup, account: Account, numbers: u32) -> Outcome {
+    let refusal = run_refusal(cells, setup, account, numbers);
     if refusal != NO_REFUSAL {
         return outcome_of(0, refusal, 0, account);
     }
-    let after = take_all(cells, setup, n, account);
+    let after = take_all(cells, setup, quotient(numbers, REQUEST_WIDTH), account);
     lent::lay_out(cells, setup);
     after
 }
