@@ -1,11 +1,8 @@
 -- The version of the host entries, and the records of the specification from a host's plain numbers.
 use Prim.Native.Nat.{ℕ}
-use mathlib.Core.Path.{_≡_}
 use denote.Ref.{RefT, now}
 use denote.Triple.Both.{Both}
 use Rattle.protocol.specs.Tables.{Tables}
-use Rattle.protocol.specs.Pricer.{numberOf, placeOf, costOf}
-use Rattle.protocol_types.specs.declared.PriceAnswer.{PriceAnswer}
 use Rattle.protocol_types.specs.declared.Setup.{Setup}
 use Rattle.protocol_types.specs.declared.Block.{Block}
 use Rattle.protocol_types.specs.declared.Account.{Account}
@@ -37,9 +34,3 @@ blockNumbered b = record { 0 = b }
 -- refusal r at line n
 abbrev pub reportOf : Account → ℕ → ℕ → Tables → Ended
 reportOf a r n t = record { report = record { account = a; refusal = r; line = n }; tables = t }
-
--- refusal r, place k and cost c tell the pricer's answer
-pub record Told (a : PriceAnswer) (r k c : ℕ) : Type 0 where
-  pub number : r ≡ numberOf a
-  pub place : k ≡ placeOf a
-  pub cost : c ≡ costOf a

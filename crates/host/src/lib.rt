@@ -7,13 +7,13 @@ ghost use mathlib.Core.Path.{_≡_};
 ghost use Rattle.protocol.specs.Lent.{before, after};
 ghost use Rattle.protocol.specs.Engines.{answered};
 ghost use Rattle.protocol.specs.Runs.{startRefusal, started};
-ghost use Rattle.protocol.specs.Pricer.{numberOf, placeOf, costOf};
+ghost use Rattle.protocol.specs.Pricer.{numbered, numberOf, placeOf, costOf};
 ghost use Rattle.rival_copies.specs.Copies.{rivalBefore, rivalAfter};
 ghost use Rattle.run_progress.specs.Progress.{outcome};
 ghost use Rattle.trace_lines.specs.Trace.{endedOn};
 ghost use Rattle.host_looks.specs.Looks.{lookLength, lookOffset};
-ghost use Rattle.host_numbers.specs.Numbers.{runNumbers, priceOfNumbers, priceTablesOfNumbers};
-ghost use Rattle.host.specs.Host.{hostVersion, setupOf, accountBefore, accountAfter, blockNumbered, reportOf, Told};
+ghost use Rattle.host_numbers.specs.Numbers.{runNumbers, priceInNumbers, priceTablesOfNumbers};
+ghost use Rattle.host.specs.Host.{hostVersion, setupOf, accountBefore, accountAfter, blockNumbered, reportOf};
 
 const VERSION: u32 = 1;
 
@@ -197,8 +197,9 @@ pub extern "C" fn cuzkelor_price(
     place: &mut usize,
     cost: &mut u32,
 ) -> u32
-    ensures { λ r. ⌜ Told (priceOfNumbers (setupOf processors lines «block_words» «block_count») (rivalBefore blocks held marks)
-        (now (requests .entry)) (now (entries .entry))) r (now (place .exit)) (now (cost .exit)) ⌝ }
+    ensures { λ r. ⌜ numbered r (now (place .exit)) (now (cost .exit))
+        ≡ priceInNumbers (setupOf processors lines «block_words» «block_count») (rivalBefore blocks held marks)
+        (now (requests .entry)) (now (entries .entry)) ⌝ }
     ensures { λ _. ⌜ rivalAfter blocks held marks ≡ priceTablesOfNumbers (setupOf processors lines «block_words» «block_count») (rivalBefore blocks held marks)
         (now (requests .entry)) (now (entries .entry)) ⌝ }
 {

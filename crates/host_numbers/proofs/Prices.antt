@@ -1,38 +1,52 @@
 -- The two cases of a price over numbers, and the pricer's loop laws (Rattle.rival_pricer.proofs.Loop) where the entries and the requests are numbers. Assumes nothing.
 use Prim.Native.Nat.{ℕ, _/_, _<_}
 use mathlib.Core.Path.{_≡_, refl, sym, ap, _∙_, subst}
-use mathlib.Core.Bool.{true, false}
+use mathlib.Core.Bool.{Bool, true, false, cond}
 use mathlib.Core.List.{List}
 use native.Mathlib.Omega.{arith}
 use lib.ListN.{length, getD}
 use Rattle.protocol.specs.Rival.{Rival}
-use Rattle.protocol.specs.Pricer.{price, priceTables}
+use Rattle.protocol.specs.Pricer.{price, priceTables, numbered, priceNumbers, inNumbers}
 use Rattle.protocol_types.specs.declared.Setup.{Setup}
 use Rattle.protocol_types.specs.declared.Request.{Request}
 use Rattle.protocol_types.specs.declared.Entry.{Entry}
 use Rattle.protocol_types.specs.declared.PriceAnswer.{PriceAnswer}
 use Rattle.protocol_types.specs.declared.PriceAnswer.the-variants.{Refused}
 use Rattle.protocol_types.proofs.Conditions.{no-request}
+use Rattle.protocol.proofs.Pricer.{price-numbers}
 use Rattle.rival_pricing.specs.Stages.{PriceStage, priceBegun, took, completed}
 use Rattle.rival_pricer.proofs.Loop.{no-entry, Inv, μ, inv-start, at-entry, inv-took, falls-took, at-request, inv-completed, falls-completed}
 use Rattle.host_decoding.specs.Records.{bothWhole, partialRefusal, requestWidth, requestAt, requestsOf, entryWidth, entryAt, entriesOf}
 use Rattle.host_decoding.proofs.Decoding.{request-count, request-at as request-is, entry-count, entry-at as entry-is}
-use Rattle.host_numbers.specs.Numbers.{priceOfNumbers, priceTablesOfNumbers}
+use Rattle.host_numbers.specs.Numbers.{priceOfNumbers, priceInNumbers, priceTablesOfNumbers}
 
 module _ (s : Setup) (r : Rival) (ms ns : List ℕ) where
   -- ---- lists that are whole, and lists of which one is not
 
-  -- the answer and the tables
+  -- an answer, the same in numbers, and the tables
   abbrev Priced : PriceAnswer → Rival → Type 0
-  Priced p y = (p ≡ priceOfNumbers s r ns ms) × (y ≡ priceTablesOfNumbers s r ns ms)
+  Priced p y = (p ≡ priceOfNumbers s r ns ms) × (inNumbers p ≡ priceInNumbers s r ns ms) × (y ≡ priceTablesOfNumbers s r ns ms)
 
-  pub price-whole : bothWhole ns ms ≡ true → Priced (price s r (requestsOf ns) (entriesOf ms)) (priceTables s r (requestsOf ns) (entriesOf ms))
-  unfolding priceOfNumbers priceTablesOfNumbers
-  price-whole e = rw e (refl, refl)
+  either-numbers : (b : Bool) → inNumbers (cond b (price s r (requestsOf ns) (entriesOf ms)) (Refused (partialRefusal s) 0))
+      ≡ cond b (priceNumbers s r (requestsOf ns) (entriesOf ms)) (numbered (partialRefusal s) 0 0)
+  either-numbers true = price-numbers s r (requestsOf ns) (entriesOf ms)
+  either-numbers false = refl
 
-  pub price-partial : bothWhole ns ms ≡ false → Priced (Refused (partialRefusal s) 0) r
+  same-numbers : inNumbers (priceOfNumbers s r ns ms) ≡ priceInNumbers s r ns ms
+  unfolding priceOfNumbers priceInNumbers
+  same-numbers = either-numbers (bothWhole ns ms)
+
+  priced : {p : PriceAnswer} {y : Rival} → p ≡ priceOfNumbers s r ns ms → y ≡ priceTablesOfNumbers s r ns ms → Priced p y
+  priced e f = (e, ap inNumbers e ∙ same-numbers, f)
+
+  pub price-whole : bothWhole ns ms ≡ true → {p : PriceAnswer} {y : Rival}
+      → (p ≡ price s r (requestsOf ns) (entriesOf ms)) × (y ≡ priceTables s r (requestsOf ns) (entriesOf ms)) → Priced p y
   unfolding priceOfNumbers priceTablesOfNumbers
-  price-partial e = rw e (refl, refl)
+  price-whole e w = priced (rw e (w .0)) (rw e (w .1))
+
+  pub price-partial : bothWhole ns ms ≡ false → {p : PriceAnswer} → p ≡ Refused (partialRefusal s) 0 → Priced p r
+  unfolding priceOfNumbers priceTablesOfNumbers
+  price-partial e w = priced (rw e w) (rw e refl)
 
   -- ---- the loop
 

@@ -6,7 +6,7 @@ use Rattle.protocol.specs.Tables.{Tables}
 use Rattle.protocol.specs.Engines.{Outcome, endedBy, run}
 use Rattle.protocol.specs.Runs.{engine}
 use Rattle.protocol.specs.Rival.{Rival}
-use Rattle.protocol.specs.Pricer.{price, priceTables}
+use Rattle.protocol.specs.Pricer.{price, priceTables, PriceNumbers, numbered, priceNumbers}
 use Rattle.protocol_types.specs.declared.Setup.{Setup}
 use Rattle.protocol_types.specs.declared.Account.{Account}
 use Rattle.protocol_types.specs.declared.PriceAnswer.{PriceAnswer}
@@ -28,6 +28,11 @@ runNumbers s t a ns vs =
 unfoldable pub priceOfNumbers : Setup → Rival → List ℕ → List ℕ → PriceAnswer
 priceOfNumbers s lent ns ms =
     cond (bothWhole ns ms) (price s lent (requestsOf ns) (entriesOf ms)) (Refused (partialRefusal s) 0)
+
+-- its number, place and cost
+unfoldable pub priceInNumbers : Setup → Rival → List ℕ → List ℕ → PriceNumbers
+priceInNumbers s lent ns ms =
+    cond (bothWhole ns ms) (priceNumbers s lent (requestsOf ns) (entriesOf ms)) (numbered (partialRefusal s) 0 0)
 
 -- the lent tables after it: "A refusal by 1, 2 … changes no buffer"
 unfoldable pub priceTablesOfNumbers : Setup → Rival → List ℕ → List ℕ → Rival

@@ -7,12 +7,12 @@ ghost use mathlib.Core.Path.{_≡_};
 ghost use Rattle.protocol.specs.Lent.{before, after};
 ghost use Rattle.protocol.specs.Engines.{run as ran};
 ghost use Rattle.protocol.specs.Runs.{engine};
-ghost use Rattle.protocol.specs.Pricer.{price as priced, priceTables};
+ghost use Rattle.protocol.specs.Pricer.{price as priced, priceTables, inNumbers};
 ghost use Rattle.protocol.specs.Accounts.{nothing};
 ghost use Rattle.rival_copies.specs.Copies.{rivalBefore, rivalAfter};
 ghost use Rattle.run_progress.specs.Progress.{Room, outcome};
 ghost use Rattle.host_decoding.specs.Records.{requestsOf, entriesOf};
-ghost use Rattle.host_numbers.specs.Numbers.{accountOf, runNumbers, priceOfNumbers, priceTablesOfNumbers};
+ghost use Rattle.host_numbers.specs.Numbers.{accountOf, runNumbers, priceOfNumbers, priceInNumbers, priceTablesOfNumbers};
 
 // What a run answers, and the account after it.
 pub struct Ran {
@@ -163,6 +163,7 @@ pub fn price(
     requests: &[u32],
 ) -> PriceAnswer
     ensures { λ r. ⌜ (r ≡ priceOfNumbers setup (rivalBefore blocks held marks) (now (requests .entry)) (now (entries .entry)))
+        × (inNumbers r ≡ priceInNumbers setup (rivalBefore blocks held marks) (now (requests .entry)) (now (entries .entry)))
         × (rivalAfter blocks held marks ≡ priceTablesOfNumbers setup (rivalBefore blocks held marks) (now (requests .entry)) (now (entries .entry))) ⌝ }
 {
     if !host_decoding::are_whole(requests, entries) {

@@ -1,7 +1,7 @@
 -- The two cases of the lists (price-partial, price-whole).
 use borrow.Author.Needs.{needs}
 use Prim.Native.Nat.{ℕ}
-use mathlib.Core.Path.{ap, _∙_}
+use mathlib.Core.Path.{ap}
 use denote.Ref.{now}
 use Rattle.protocol.specs.Rival.{rival}
 use Rattle.protocol_types.specs.declared.PriceAnswer.the-variants.{Refused}
@@ -15,8 +15,8 @@ returns c =
     let are-whole′ = c .before .before in
     let a = are-whole′ .before .before .before .before .before .before .args in
     let r = rival (now (a .blocks)) (now (a .held)) (now (a .marks)) in
-    let e = price-partial (a .setup) r (now (a .entries)) (now (a .requests)) (failed (are-whole′ .are-whole .ensures) (c .before .if1 .taken)) in
-    (ap (λ (n : ℕ). Refused n 0) (c .partial-refusal .ensures) ∙ e .0, e .1)
+    price-partial (a .setup) r (now (a .entries)) (now (a .requests)) (failed (are-whole′ .are-whole .ensures) (c .before .if1 .taken))
+    (ap (λ (n : ℕ). Refused n 0) (c .partial-refusal .ensures))
 
 returns-2 : tie.Need-returns-2
 returns-2 c =
@@ -25,8 +25,8 @@ returns-2 c =
     let are-whole′ = if1′ .before in
     let a = are-whole′ .before .before .before .before .before .before .args in
     let r = rival (now (a .blocks)) (now (a .held)) (now (a .marks)) in
-    let e = price-whole (a .setup) r (now (a .entries)) (now (a .requests)) (passed (are-whole′ .are-whole .ensures) (if1′ .if1 .left)) in
-    (price-schedule′ .price-schedule .ensures .0 ∙ e .0, price-schedule′ .price-schedule .ensures .1 ∙ e .1)
+    price-whole (a .setup) r (now (a .entries)) (now (a .requests)) (passed (are-whole′ .are-whole .ensures) (if1′ .if1 .left))
+    (price-schedule′ .price-schedule .ensures)
 
 pub price-spec : {M : Type 1} → statement M
 price-spec =
