@@ -15,6 +15,7 @@ ghost use Rattle.host_looks.specs.Looks.{lookLength, lookOffset};
 ghost use Rattle.host_numbers.specs.Numbers.{runNumbers, priceInNumbers, priceTablesOfNumbers};
 ghost use Rattle.host.specs.Host.{hostVersion, setupOf, accountBefore, accountAfter, blockNumbered, reportOf};
 
+// It counts the changes of these functions' signatures and meanings.
 const VERSION: u32 = 1;
 
 // The version of these functions, by which a host can tell whether it was built for them.

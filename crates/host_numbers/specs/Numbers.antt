@@ -19,12 +19,14 @@ accountOf n f w u = record { requests = n; fetch = f; «write_back» = w; update
 
 -- ---- a run of the requests that the numbers ns name
 
+-- a list that is not whole is refused before its first request: none is taken, and nothing changes
 unfoldable pub runNumbers : Setup → Tables → Account → List ℕ → List ℕ → Outcome Tables
 runNumbers s t a ns vs =
     cond (whole requestWidth ns) (run (engine s) t a (requestsOf ns) vs) (endedBy (partialRefusal s) t a vs)
 
 -- ---- the price, for the requests that the numbers ns name, of the schedule that the numbers ms name
 
+-- lists of which one is not whole are refused before the first entry
 unfoldable pub priceOfNumbers : Setup → Rival → List ℕ → List ℕ → PriceAnswer
 priceOfNumbers s lent ns ms =
     cond (bothWhole ns ms) (price s lent (requestsOf ns) (entriesOf ms)) (Refused (partialRefusal s) 0)

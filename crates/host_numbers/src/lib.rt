@@ -87,7 +87,7 @@ fn run_requests(
     }
 }
 
-// A run: of a whole list alone.
+// A run of the requests that the numbers name; a list that is not whole is refused.
 pub fn run(
     setup: Setup,
     blocks: &mut [u32],
@@ -153,7 +153,7 @@ fn price_schedule(
     p.answer
 }
 
-// The price of a schedule for the requests: of whole lists alone.
+// The price of a schedule for the requests; lists that are not whole are refused.
 pub fn price(
     setup: Setup,
     blocks: &mut [u32],
