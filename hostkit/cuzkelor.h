@@ -1,14 +1,23 @@
-/* Cuzkelor for C: direct-mapped snoopy caches with their bus cycles, and the price of rival schedules.
+/* Cuzkelor for C and C++: direct-mapped snoopy caches with their bus cycles, and the price of rival schedules.
  *
- * Link libhost.a, which `rt staticlib host` writes. The first half declares what the archive exports; the second
- * half wraps it in structs.
+ * Link libhost.a, which `rt staticlib host` writes for x86-64 Linux. It needs the C library's memory functions (today
+ * memset alone) and no other library, allocates nothing, prints nothing and keeps no state. hostkit/c/example.c is a
+ * whole program with its command. Here are first the numbers, then what the archive exports, then the same over
+ * structs.
  *
- * What the host owes at each call: every pointer is valid for its length and not NULL, also at length 0, and nothing
- * that the callee may write (tables, values, account, out-parameters) overlaps anything else that it is passed.
+ * What a host owes at each call:
+ * - Each pointer is valid for its length, not NULL also at length 0, and aligned for its element type. A list of
+ *   requests or entries is an array of uint32_t.
+ * - Nothing that the callee may write (tables, values, account, out-parameters) overlaps anything else that it is
+ *   passed.
+ * - Threads: there is no global state, so calls on different buffers may go on at once. Calls that share a buffer may
+ *   not, unless all of them only read it.
  * Whatever the numbers are, the call is safe and ends.
  *
- * All but a look return the number of the first condition met, in the order given at each function, or 0 if none is.
- * Every out-parameter is written, whatever is returned. Places count from 0. */
+ * What a host gets: the number of the first condition met, in the order given at each function, or 0 if none is; a
+ * look and the version give other numbers. Each out-parameter is written, whatever is returned. Places count from 0.
+ *
+ * The Rust crate beside this file reads its numbers and functions here, when it is built. */
 #ifndef CUZKELOR_H
 #define CUZKELOR_H
 
@@ -19,33 +28,45 @@
 extern "C" {
 #endif
 
-/* Why something was refused. By 1, 2, 5, 20 and 21 no table, no value and no account that a run adds to changes. */
-enum cuzkelor_refusal {
-    CUZKELOR_NO_REFUSAL = 0,
-    /* for what came in */
-    CUZKELOR_SETUP_OUT_OF_RANGE = 1,
-    CUZKELOR_WRONG_LENGTH = 2, /* of a lent buffer */
-    CUZKELOR_NO_SUCH_PROCESSOR = 3,
-    CUZKELOR_NO_SUCH_VARIABLE = 4,
-    CUZKELOR_TOO_MANY = 5, /* over 1,000,000 requests or 4,000,000 entries to the pricer */
-    CUZKELOR_MALFORMED_LINE = 6,
-    CUZKELOR_UNKNOWN_LABEL = 7,
-    CUZKELOR_NO_SUCH_BLOCK = 8,
-    CUZKELOR_READ_BY_BROADCAST = 9,
-    /* for how things stand */
-    CUZKELOR_UNSOUND_TABLES = 20,
-    CUZKELOR_IMPOSSIBLE_ACCOUNT = 21,
-    CUZKELOR_ACCOUNT_FULL = 22, /* at 1,000,000 requests or more */
-    CUZKELOR_LINE_IN_USE = 23,  /* at a fetch */
-    CUZKELOR_BLOCK_NOT_HELD = 24, /* at a drop or a write-back */
-    CUZKELOR_DROP_OF_MARKED = 25,
-    CUZKELOR_NO_REQUEST_LEFT = 26,
-    CUZKELOR_COMPLETION_NOT_HELD = 27,
-    CUZKELOR_REQUESTS_LEFT = 28
-};
+/* ---- Numbers ---- */
+
+/* The version of what the archive exports and of what it means. */
+#define CUZKELOR_VERSION 1
+
+/* Why something is refused: name, number, what is refused, the condition in words.
+ *
+ * CALL: the call as a whole. No table, no value and no account that a run adds to has changed; places and taken are 0.
+ * PLACE: a request, an entry or a line, or the end of a schedule. The answer says which one, and each function what it
+ * leaves then. */
+#define CUZKELOR_REFUSALS(X)                                                                                           \
+    X(CUZKELOR_SETUP_OUT_OF_RANGE, 1, CALL, "a setup number is out of range")                                          \
+    X(CUZKELOR_WRONG_LENGTH, 2, CALL, "a buffer's length is not the one that the setup or the list requires")          \
+    X(CUZKELOR_NO_SUCH_PROCESSOR, 3, PLACE, "no such processor")                                                       \
+    X(CUZKELOR_NO_SUCH_VARIABLE, 4, PLACE, "no such variable")                                                         \
+    X(CUZKELOR_TOO_MANY, 5, CALL, "over 1,000,000 requests or 4,000,000 entries to the pricer")                        \
+    X(CUZKELOR_MALFORMED_LINE, 6, PLACE, "malformed trace line")                                                       \
+    X(CUZKELOR_UNKNOWN_LABEL, 7, PLACE, "a trace label is a digit above 2")                                            \
+    X(CUZKELOR_NO_SUCH_BLOCK, 8, PLACE, "no such block")                                                               \
+    X(CUZKELOR_READ_BY_BROADCAST, 9, PLACE, "a read is completed by broadcast")                                        \
+    X(CUZKELOR_UNSOUND_TABLES, 20, CALL, "the tables are not sound")                                                   \
+    X(CUZKELOR_IMPOSSIBLE_ACCOUNT, 21, CALL, "the account has more cycles than its requests allow")                    \
+    X(CUZKELOR_ACCOUNT_FULL, 22, PLACE, "the account is already at 1,000,000 requests or more")                        \
+    X(CUZKELOR_LINE_IN_USE, 23, PLACE, "a fetch into a line that is not empty")                                        \
+    X(CUZKELOR_BLOCK_NOT_HELD, 24, PLACE, "a drop or a write-back of a block that is not held")                        \
+    X(CUZKELOR_DROP_OF_MARKED, 25, PLACE, "a drop of a marked block")                                                  \
+    X(CUZKELOR_NO_REQUEST_LEFT, 26, PLACE, "a completion with no request left")                                        \
+    X(CUZKELOR_COMPLETION_NOT_HELD, 27, PLACE, "a completion of a request whose block is not held")                    \
+    X(CUZKELOR_REQUESTS_LEFT, 28, PLACE, "the schedule ends with requests left")
+
+#define CUZKELOR_ENUMERATOR(name, number, refused, text) name = number,
+enum cuzkelor_refusal { CUZKELOR_REFUSALS(CUZKELOR_ENUMERATOR) CUZKELOR_NO_REFUSAL = 0 };
+#undef CUZKELOR_ENUMERATOR
 
 /* The second of a request's four numbers. Any other number reads. */
-enum cuzkelor_operation { CUZKELOR_READ = 0, CUZKELOR_WRITE = 1 };
+enum cuzkelor_operation {
+    CUZKELOR_READ = 0,
+    CUZKELOR_WRITE = 1
+};
 
 /* The first of an entry's three numbers. Any other number completes by broadcast. */
 enum cuzkelor_kind {
@@ -56,12 +77,48 @@ enum cuzkelor_kind {
     CUZKELOR_COMPLETE_BY_BROADCAST = 4
 };
 
+/* How many numbers a request and an entry are in a list. */
+enum cuzkelor_record {
+    CUZKELOR_REQUEST_NUMBERS = 4,
+    CUZKELOR_ENTRY_NUMBERS = 3
+};
+
+/* The most that each number of a setup may be; the least is 1. */
+enum cuzkelor_most {
+    CUZKELOR_MOST_PROCESSORS = 8,
+    CUZKELOR_MOST_LINES = 64,
+    CUZKELOR_MOST_BLOCK_WORDS = 16,
+    CUZKELOR_MOST_BLOCK_COUNT = 256
+};
+
+/* The setup of every trace. */
+enum cuzkelor_trace {
+    CUZKELOR_TRACE_PROCESSORS = 4,
+    CUZKELOR_TRACE_LINES = 8,
+    CUZKELOR_TRACE_BLOCK_WORDS = 4,
+    CUZKELOR_TRACE_BLOCK_COUNT = 64
+};
+
+/* Lengths as constants, for arrays. Block numbers, counters and marks (of a rival: block numbers, held and marks) have
+ * one number for each line of each cache, words a block for each, and memory one number for each variable. */
+#define CUZKELOR_SLOT_COUNT(processors, lines) ((size_t)(processors) * (size_t)(lines))
+#define CUZKELOR_WORD_COUNT(processors, lines, block_words)                                                            \
+    (CUZKELOR_SLOT_COUNT(processors, lines) * (size_t)(block_words))
+#define CUZKELOR_VARIABLE_COUNT(block_words, block_count) ((size_t)(block_words) * (size_t)(block_count))
+
 /* ---- What the archive exports ----
  *
- * A setup is four numbers: processors (1 to 8), lines in each cache (1 to 64), words in a block (1 to 16), blocks
- * (1 to 256). The tables go processor by processor and line by line: block numbers, counters (0: the line is empty)
- * and dirty marks have processors x lines numbers; words has block_words times as many; memory has
- * block_count x block_words. */
+ * A setup is four numbers: processors, lines in each cache, words in a block, blocks. The tables go processor by
+ * processor and line by line: a block's line in a processor's cache is slot processor x lines + block mod lines, and
+ * its words begin at slot x block_words. Counter 0 means an empty line. Variable v is word v of memory; it lies in
+ * block v / block_words, rounded down.
+ *
+ * Tables are sound, as start and run leave them, if every counter is at most block_words; the block number, mark and
+ * words of an empty line are 0; a held block is below block_count and in its line; marks are 0 or 1; a marked block has
+ * counter block_words and one holder; an unmarked copy equals memory. */
+
+/* The version of this archive: CUZKELOR_VERSION of the header that belongs to it. */
+uint32_t cuzkelor_version(void);
 
 /* Fills all tables with 0. Checks 1, 2; a refusal changes no table. */
 uint32_t cuzkelor_start(uint32_t processors, uint32_t lines, uint32_t block_words, uint32_t block_count,
@@ -69,25 +126,31 @@ uint32_t cuzkelor_start(uint32_t processors, uint32_t lines, uint32_t block_word
                         uint32_t *marks, size_t marks_length, uint32_t *words, size_t words_length,
                         uint32_t *memory, size_t memory_length);
 
-/* Where in words the copy of a block in a processor's cache begins, and how many words it has. Both are 0 if 1, 2 (of
- * these three tables), 3 or 8 would apply, or if the line's counter is 0 or it names another block. Soundness plays no
- * part. */
+/* Where in words the copy of a block in a processor's cache begins. 0 if 1, 2 (of these three tables), 3 or 8 would
+ * apply, or if the line's counter is 0 or it names another block; but 0 is also where the first copy begins, so ask for
+ * the length. Soundness plays no part. */
 size_t cuzkelor_look_offset(uint32_t processors, uint32_t lines, uint32_t block_words, uint32_t block_count,
                             const uint32_t *blocks, size_t blocks_length, const uint32_t *counters,
                             size_t counters_length, const uint32_t *words, size_t words_length, uint32_t processor,
                             uint32_t block);
+
+/* How many words that copy has: block_words, or 0 if one of the same conditions is met. */
 size_t cuzkelor_look_length(uint32_t processors, uint32_t lines, uint32_t block_words, uint32_t block_count,
                             const uint32_t *blocks, size_t blocks_length, const uint32_t *counters,
                             size_t counters_length, const uint32_t *words, size_t words_length, uint32_t processor,
                             uint32_t block);
 
-/* Serves requests in turn, to the first refused one, and adds to the account. A request is four numbers: processor,
- * operation, variable, value; fewer than four at the end name none. values has one word for each request, which gets
- * the value supplied or written. Checks 1, 2, 20, 21, then for each request 3, 4, 22.
+/* Serves requests in turn, to the first refused one, and adds to the account: 1 to its requests for each one taken, and
+ * the cycles of each kind. A request is four numbers: processor, operation, variable, value (of a read it plays no
+ * part). values has one word for each request, which gets the value supplied or written.
+ *
+ * Checks 1, 2, 20, 21, then for each request 3, 4, 22. 2 also meets a list that is no whole number of requests, and
+ * values of another length than the list. 21: fetch or write-back cycles over block_words x requests, or update cycles
+ * over requests.
  *
  * No refusal: taken is the number of requests, place is 0. By 1, 2, 20 or 21: taken and place are 0, nothing lent
- * changes. By 3, 4 or 22: taken and place are the refused request's place; tables, account and values are as the
- * requests before it left them. */
+ * changes. By 3, 4 or 22: taken and place are both the refused request's place; tables and account are as the requests
+ * before it left them, and values from that place on are untouched. */
 uint32_t cuzkelor_run(uint32_t processors, uint32_t lines, uint32_t block_words, uint32_t block_count,
                       uint32_t *blocks, size_t blocks_length, uint32_t *counters, size_t counters_length,
                       uint32_t *marks, size_t marks_length, uint32_t *words, size_t words_length, uint32_t *memory,
@@ -95,22 +158,30 @@ uint32_t cuzkelor_run(uint32_t processors, uint32_t lines, uint32_t block_words,
                       uint32_t *account_write_back, uint32_t *account_update, const uint32_t *requests,
                       size_t requests_length, uint32_t *values, size_t values_length, size_t *taken, size_t *place);
 
-/* Plays a rival's schedule from empty caches. An entry is three numbers: kind, processor, block; fewer than three at
- * the end name none. A completion's processor and block play no part. blocks, held and marks have processors x lines
- * numbers. Checks 1, 2, 5; at each fetch, write-back or drop 3, 8, then 23, or 24 and 25; at each completion 26, 3, 4,
- * 9, 27; at the end 28.
+/* Plays a rival's schedule for a list of requests, from empty caches; what the tables hold before plays no part. An
+ * entry is three numbers: kind, processor, block; of a completion the last two play no part.
  *
- * No refusal: place is 0, and the tables show the rival's last copies, with empty lines all 0. By 1, 2 or 5: place and
- * cost are 0, no table changes. By any other: place is the entry's (28: the number of entries), cost is 0, and the
- * tables are all 0. */
+ * Checks 1, 2, 5; at each fetch 3, 8, 23; at each write-back 3, 8, 24; at each drop 3, 8, 24, 25; at each completion
+ * 26, then of the request 3, 4, 9, 27; at the end 28. 2 also meets a list that is no whole number of entries or of
+ * requests.
+ *
+ * No refusal: place is 0, the tables show the rival's last copies, with empty lines all 0, and cost is the schedule's
+ * cycles, the sum of its entries' costs: block_words for a fetch and for a write-back, 0 for a drop and for a completed
+ * read, 1 for a write completed by broadcast, and for a write completed otherwise 0 where its block has one holder,
+ * else 1. By 1, 2 or 5: place and cost are 0, no table changes. By any other: place is the entry's (28: the number of
+ * entries), cost is 0, and the tables are all 0. */
 uint32_t cuzkelor_price(uint32_t processors, uint32_t lines, uint32_t block_words, uint32_t block_count,
                         uint32_t *blocks, size_t blocks_length, uint32_t *held, size_t held_length, uint32_t *marks,
                         size_t marks_length, const uint32_t *entries, size_t entries_length,
                         const uint32_t *requests, size_t requests_length, size_t *place, uint32_t *cost);
 
-/* Counts a whole din trace, with 4 processors, 8 lines, 4 words in a block and 64 blocks. It starts the tables
- * itself, and the account is written, not added to. Checks 2, then for each line 6, 7, 3, 4, 22, and stops at the
- * first refused one.
+/* Counts a whole din trace, with 4 processors, 8 lines, 4 words in a block and 64 blocks. It starts the tables itself,
+ * and the account is written, not added to. A line is a label of one digit, blanks or tabs, an address of 1 to 8
+ * hexadecimal digits, and its end, or a blank, tab or carriage return and ignored text; it has at most 80 bytes without
+ * its newline, which the last line may lack. Labels 0 and 2 read, 1 writes the line's number, from 1. The address's top
+ * byte is the processor, its low 24 bits divided by 4, rounded down, the variable.
+ *
+ * Checks 2, then for each line 6, 7, 3, 4, 22, and stops at the first refused one.
  *
  * No refusal: line is 0. By 2: line and account are 0, no table changes. By any other: line is the refused line's
  * number, from 1; tables and account are as the lines before it left them. */
@@ -141,6 +212,9 @@ typedef struct {
     size_t length;
 } cuzkelor_numbers;
 
+/* An array, not a pointer, as the initializer of lent numbers: cuzkelor_numbers words = CUZKELOR_LENT(array); */
+#define CUZKELOR_LENT(array) {(array), sizeof(array) / sizeof((array)[0])}
+
 typedef struct {
     cuzkelor_numbers blocks, counters, marks, words, memory;
 } cuzkelor_tables;
@@ -149,6 +223,7 @@ typedef struct {
     cuzkelor_numbers blocks, held, marks;
 } cuzkelor_rival;
 
+/* Requests taken, and the cycles of each kind. A fresh one is all 0. */
 typedef struct {
     uint32_t requests, fetch, write_back, update;
 } cuzkelor_account;
@@ -164,6 +239,30 @@ typedef struct {
     uint32_t kind, processor;
     cuzkelor_block block;
 } cuzkelor_entry;
+
+#if defined(__cplusplus) && __cplusplus >= 201103L
+#define CUZKELOR_ASSERT(name, condition) static_assert(condition, #name)
+#elif defined(__STDC_VERSION__) && __STDC_VERSION__ >= 201112L
+#define CUZKELOR_ASSERT(name, condition) _Static_assert(condition, #name)
+#else
+#define CUZKELOR_ASSERT(name, condition) typedef char cuzkelor_##name[(condition) ? 1 : -1]
+#endif
+#define CUZKELOR_ASSERT_NUMBER(record, member, place)                                                                  \
+    CUZKELOR_ASSERT(record##_##member##_is_number_##place,                                                             \
+                    offsetof(cuzkelor_##record, member) == (place) * sizeof(uint32_t))
+
+CUZKELOR_ASSERT(request_has_no_padding, sizeof(cuzkelor_request) == CUZKELOR_REQUEST_NUMBERS * sizeof(uint32_t));
+CUZKELOR_ASSERT_NUMBER(request, processor, 0);
+CUZKELOR_ASSERT_NUMBER(request, operation, 1);
+CUZKELOR_ASSERT_NUMBER(request, variable, 2);
+CUZKELOR_ASSERT_NUMBER(request, value, 3);
+CUZKELOR_ASSERT(entry_has_no_padding, sizeof(cuzkelor_entry) == CUZKELOR_ENTRY_NUMBERS * sizeof(uint32_t));
+CUZKELOR_ASSERT_NUMBER(entry, kind, 0);
+CUZKELOR_ASSERT_NUMBER(entry, processor, 1);
+CUZKELOR_ASSERT_NUMBER(entry, block, 2);
+
+#undef CUZKELOR_ASSERT_NUMBER
+#undef CUZKELOR_ASSERT
 
 typedef struct {
     size_t taken;
@@ -188,6 +287,60 @@ typedef struct {
     size_t length;
 } cuzkelor_part;
 
+/* Whether the archive belongs to this header. To be asked once, before anything else. */
+static inline int cuzkelor_version_matches(void) { return cuzkelor_version() == CUZKELOR_VERSION; }
+
+/* The condition in words. */
+static inline const char *cuzkelor_refusal_text(uint32_t refusal) {
+#define CUZKELOR_TEXT(name, number, refused, text)                                                                     \
+    case number: return text;
+    switch (refusal) {
+        CUZKELOR_REFUSALS(CUZKELOR_TEXT)
+    case CUZKELOR_NO_REFUSAL: return "no refusal";
+    default: return "no such refusal number";
+    }
+#undef CUZKELOR_TEXT
+}
+
+/* Whether the call as a whole is refused, so that nothing lent has changed. */
+static inline int cuzkelor_refuses_call(uint32_t refusal) {
+    enum { CUZKELOR_REFUSED_CALL = 1, CUZKELOR_REFUSED_PLACE = 0 };
+#define CUZKELOR_REFUSED(name, number, refused, text)                                                                  \
+    case number: return CUZKELOR_REFUSED_##refused;
+    switch (refusal) {
+        CUZKELOR_REFUSALS(CUZKELOR_REFUSED)
+    default: return 0;
+    }
+#undef CUZKELOR_REFUSED
+}
+
+static inline cuzkelor_setup cuzkelor_trace_setup(void) {
+    cuzkelor_setup setup = {CUZKELOR_TRACE_PROCESSORS, CUZKELOR_TRACE_LINES, CUZKELOR_TRACE_BLOCK_WORDS,
+                            CUZKELOR_TRACE_BLOCK_COUNT};
+    return setup;
+}
+
+/* The lengths that a setup in range requires: of block numbers, counters, marks and held; of words; of memory. */
+static inline size_t cuzkelor_slot_count(cuzkelor_setup setup) {
+    return CUZKELOR_SLOT_COUNT(setup.processors, setup.lines);
+}
+
+static inline size_t cuzkelor_word_count(cuzkelor_setup setup) {
+    return CUZKELOR_WORD_COUNT(setup.processors, setup.lines, setup.block_words);
+}
+
+static inline size_t cuzkelor_variable_count(cuzkelor_setup setup) {
+    return CUZKELOR_VARIABLE_COUNT(setup.block_words, setup.block_count);
+}
+
+/* Whether 1 does not meet a setup. */
+static inline int cuzkelor_setup_in_range(cuzkelor_setup setup) {
+    return 1 <= setup.processors && setup.processors <= CUZKELOR_MOST_PROCESSORS && 1 <= setup.lines &&
+           setup.lines <= CUZKELOR_MOST_LINES && 1 <= setup.block_words &&
+           setup.block_words <= CUZKELOR_MOST_BLOCK_WORDS && 1 <= setup.block_count &&
+           setup.block_count <= CUZKELOR_MOST_BLOCK_COUNT;
+}
+
 static inline cuzkelor_variable cuzkelor_make_variable(uint32_t number) {
     cuzkelor_variable variable = {number};
     return variable;
@@ -198,7 +351,7 @@ static inline cuzkelor_block cuzkelor_make_block(uint32_t number) {
     return block;
 }
 
-/* The block in which a variable lies; the setup has to be in range. */
+/* The block in which a variable lies, of a setup in range. */
 static inline cuzkelor_block cuzkelor_block_of(cuzkelor_setup setup, cuzkelor_variable variable) {
     return cuzkelor_make_block(variable.number / setup.block_words);
 }
@@ -238,38 +391,41 @@ static inline cuzkelor_entry cuzkelor_complete_by_broadcast(void) {
     return entry;
 }
 
+/* The arguments that a struct is. */
+#define CUZKELOR_SETUP(setup) (setup).processors, (setup).lines, (setup).block_words, (setup).block_count
+#define CUZKELOR_NUMBERS(numbers) (numbers).at, (numbers).length
+#define CUZKELOR_TABLES(tables)                                                                                        \
+    CUZKELOR_NUMBERS((tables)->blocks), CUZKELOR_NUMBERS((tables)->counters), CUZKELOR_NUMBERS((tables)->marks),       \
+        CUZKELOR_NUMBERS((tables)->words), CUZKELOR_NUMBERS((tables)->memory)
+#define CUZKELOR_ACCOUNT(account)                                                                                      \
+    &(account)->requests, &(account)->fetch, &(account)->write_back, &(account)->update
+#define CUZKELOR_REQUESTS(requests, count) (const uint32_t *)(const void *)(requests), CUZKELOR_REQUEST_NUMBERS *(count)
+#define CUZKELOR_ENTRIES(entries, count) (const uint32_t *)(const void *)(entries), CUZKELOR_ENTRY_NUMBERS *(count)
+
 static inline uint32_t cuzkelor_start_tables(cuzkelor_setup setup, const cuzkelor_tables *tables) {
-    return cuzkelor_start(setup.processors, setup.lines, setup.block_words, setup.block_count, tables->blocks.at,
-                          tables->blocks.length, tables->counters.at, tables->counters.length, tables->marks.at,
-                          tables->marks.length, tables->words.at, tables->words.length, tables->memory.at,
-                          tables->memory.length);
+    return cuzkelor_start(CUZKELOR_SETUP(setup), CUZKELOR_TABLES(tables));
 }
 
 static inline cuzkelor_part cuzkelor_look(cuzkelor_setup setup, const cuzkelor_tables *tables, uint32_t processor,
                                           cuzkelor_block block) {
     cuzkelor_part part;
-    part.at = tables->words.at + cuzkelor_look_offset(setup.processors, setup.lines, setup.block_words,
-                                                      setup.block_count, tables->blocks.at, tables->blocks.length,
-                                                      tables->counters.at, tables->counters.length, tables->words.at,
-                                                      tables->words.length, processor, block.number);
-    part.length = cuzkelor_look_length(setup.processors, setup.lines, setup.block_words, setup.block_count,
-                                       tables->blocks.at, tables->blocks.length, tables->counters.at,
-                                       tables->counters.length, tables->words.at, tables->words.length, processor,
+    part.at = tables->words.at + cuzkelor_look_offset(CUZKELOR_SETUP(setup), CUZKELOR_NUMBERS(tables->blocks),
+                                                      CUZKELOR_NUMBERS(tables->counters),
+                                                      CUZKELOR_NUMBERS(tables->words), processor, block.number);
+    part.length = cuzkelor_look_length(CUZKELOR_SETUP(setup), CUZKELOR_NUMBERS(tables->blocks),
+                                       CUZKELOR_NUMBERS(tables->counters), CUZKELOR_NUMBERS(tables->words), processor,
                                        block.number);
     return part;
 }
 
-/* count requests, and value_count words for their values: condition 2 wants as many. */
+/* count requests, and value_count words for their values: 2 wants as many. */
 static inline cuzkelor_run_answer cuzkelor_run_requests(cuzkelor_setup setup, const cuzkelor_tables *tables,
                                                         cuzkelor_account *account, const cuzkelor_request *requests,
                                                         size_t count, uint32_t *values, size_t value_count) {
     cuzkelor_run_answer answer;
-    answer.refusal = cuzkelor_run(
-        setup.processors, setup.lines, setup.block_words, setup.block_count, tables->blocks.at,
-        tables->blocks.length, tables->counters.at, tables->counters.length, tables->marks.at, tables->marks.length,
-        tables->words.at, tables->words.length, tables->memory.at, tables->memory.length, &account->requests,
-        &account->fetch, &account->write_back, &account->update, (const uint32_t *)(const void *)requests, 4 * count,
-        values, value_count, &answer.taken, &answer.place);
+    answer.refusal = cuzkelor_run(CUZKELOR_SETUP(setup), CUZKELOR_TABLES(tables), CUZKELOR_ACCOUNT(account),
+                                  CUZKELOR_REQUESTS(requests, count), values, value_count, &answer.taken,
+                                  &answer.place);
     return answer;
 }
 
@@ -278,23 +434,27 @@ static inline cuzkelor_price_answer cuzkelor_price_schedule(cuzkelor_setup setup
                                                             const cuzkelor_request *requests,
                                                             size_t request_count) {
     cuzkelor_price_answer answer;
-    answer.refusal = cuzkelor_price(setup.processors, setup.lines, setup.block_words, setup.block_count,
-                                    rival->blocks.at, rival->blocks.length, rival->held.at, rival->held.length,
-                                    rival->marks.at, rival->marks.length, (const uint32_t *)(const void *)entries,
-                                    3 * entry_count, (const uint32_t *)(const void *)requests, 4 * request_count,
-                                    &answer.place, &answer.cost);
+    answer.refusal = cuzkelor_price(CUZKELOR_SETUP(setup), CUZKELOR_NUMBERS(rival->blocks),
+                                    CUZKELOR_NUMBERS(rival->held), CUZKELOR_NUMBERS(rival->marks),
+                                    CUZKELOR_ENTRIES(entries, entry_count),
+                                    CUZKELOR_REQUESTS(requests, request_count), &answer.place, &answer.cost);
     return answer;
 }
 
+/* Tables of the trace's setup. The account is that of the lines before a refused one. */
 static inline cuzkelor_report cuzkelor_count_din(const cuzkelor_tables *tables, const char *bytes, size_t length) {
     cuzkelor_report report;
-    report.refusal = cuzkelor_count_trace(
-        (const uint8_t *)bytes, length, tables->blocks.at, tables->blocks.length, tables->counters.at,
-        tables->counters.length, tables->marks.at, tables->marks.length, tables->words.at, tables->words.length,
-        tables->memory.at, tables->memory.length, &report.account.requests, &report.account.fetch,
-        &report.account.write_back, &report.account.update, &report.line);
+    report.refusal = cuzkelor_count_trace((const uint8_t *)bytes, length, CUZKELOR_TABLES(tables),
+                                          CUZKELOR_ACCOUNT(&report.account), &report.line);
     return report;
 }
+
+#undef CUZKELOR_SETUP
+#undef CUZKELOR_NUMBERS
+#undef CUZKELOR_TABLES
+#undef CUZKELOR_ACCOUNT
+#undef CUZKELOR_REQUESTS
+#undef CUZKELOR_ENTRIES
 
 #ifdef __cplusplus
 }

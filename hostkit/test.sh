@@ -1,12 +1,34 @@
 #!/usr/bin/env bash
-# Proves and writes the archive, then tests it from C and from Rust. Needs rt, gcc and cargo.
+# Proves and writes the archive, then tests it from C, C++ and Rust. Needs rt, gcc, g++ and cargo.
 set -eu
 cd "$(dirname "$0")/.."
 rt staticlib host
 export CUZKELOR_LIB="$PWD/target/staticlib" CARGO_TARGET_DIR="$PWD/target/hostkit"
-mkdir -p "$CARGO_TARGET_DIR"
-gcc -O2 -Wall -Wextra -Werror -o "$CARGO_TARGET_DIR/test" hostkit/c/test.c "$CUZKELOR_LIB/libhost.a"
-"$CARGO_TARGET_DIR/test"
+archive="$CUZKELOR_LIB/libhost.a"
+out="$CARGO_TARGET_DIR"
+mkdir -p "$out"
+
+# What the header says of the archive: it needs no functions but those that compilers presuppose, and has no state.
+if nm --undefined-only "$archive" | grep ' U ' | grep -vE ' U (memset|memcpy|memmove|memcmp)$'; then
+    echo 'the archive needs more than the header says'
+    exit 1
+fi
+size "$archive" | awk 'NR > 1 && $2 + $3 > 0 { print "the archive has state"; exit 1 }'
+echo 'archive: no other functions needed, no state'
+
+strict=(-O2 -Wall -Wextra -pedantic -Wconversion -Werror)
+for compiler in 'gcc -std=c99' 'gcc -std=c11' 'g++ -std=c++11 -x c++'; do
+    echo "test.c by $compiler"
+    $compiler "${strict[@]}" -o "$out/test" hostkit/c/test.c -x none "$archive"
+    "$out/test"
+done
+
+# The example, by the command in its comment.
+command=$(sed -n 's/^ \* *\(gcc .*\)/\1/p' hostkit/c/example.c)
+$command "${strict[@]}"
+target/example | diff - hostkit/c/example.stdout
+echo 'example: as expected'
+
 cd hostkit/rust
 cargo test --release --offline --locked -- --nocapture
 echo 'host kit: all passed'

@@ -1,11 +1,12 @@
-/* Plays the document's sessions, its printed trace, a look and a schedule through the archive from C. */
+/* Plays the document's sessions, its printed trace, a look and a schedule through the archive from C or C++, and tests
+ * the header's numbers, words and lengths. */
 #include "../cuzkelor.h"
 #include <stdbool.h>
 #include <stdio.h>
 #include <stdlib.h>
 #include <string.h>
 
-enum { N = 4, L = 8, P = 4, M = 64, SLOTS = N * L, GARBAGE = 0x5555 };
+enum { N = 4, L = 8, P = 4, M = 64, SLOTS = CUZKELOR_SLOT_COUNT(N, L), GARBAGE = 0x5555 };
 
 static const cuzkelor_setup SETUP = {N, L, P, M};
 static const cuzkelor_setup ONE_WORD = {N, L, 1, M};
@@ -13,7 +14,8 @@ static const cuzkelor_setup ONE_WORD = {N, L, 1, M};
 /* Tables and account of one host, with room for any setup up to SETUP's. */
 struct host {
     cuzkelor_setup setup;
-    uint32_t blocks[SLOTS], counters[SLOTS], marks[SLOTS], words[SLOTS * P], memory[M * P];
+    uint32_t blocks[SLOTS], counters[SLOTS], marks[SLOTS], words[CUZKELOR_WORD_COUNT(N, L, P)];
+    uint32_t memory[CUZKELOR_VARIABLE_COUNT(P, M)];
     cuzkelor_account account;
 };
 
@@ -35,9 +37,10 @@ static cuzkelor_numbers lent(uint32_t *at, size_t length) {
 }
 
 static cuzkelor_tables tables_of(struct host *h) {
-    size_t slots = h->setup.processors * h->setup.lines, p = h->setup.block_words;
+    size_t slots = cuzkelor_slot_count(h->setup);
     cuzkelor_tables tables = {lent(h->blocks, slots), lent(h->counters, slots), lent(h->marks, slots),
-                              lent(h->words, slots * p), lent(h->memory, h->setup.block_count * p)};
+                              lent(h->words, cuzkelor_word_count(h->setup)),
+                              lent(h->memory, cuzkelor_variable_count(h->setup))};
     return tables;
 }
 
@@ -210,7 +213,7 @@ static void limits(void) {
 
 static void printed_trace(void) {
     static const char trace[] = "0 00000000\n0 01000000\n1 00000000\n1 4\n";
-    struct host h = fresh(SETUP);
+    struct host h = fresh(cuzkelor_trace_setup());
     cuzkelor_tables tables = tables_of(&h);
     cuzkelor_report report = cuzkelor_count_din(&tables, trace, sizeof trace - 1);
     cuzkelor_account account = {4, 8, 0, 2};
@@ -238,7 +241,7 @@ static void a_look(void) {
 
 static void a_schedule(void) {
     uint32_t blocks[SLOTS], held[SLOTS], marks[SLOTS];
-    cuzkelor_rival rival = {lent(blocks, SLOTS), lent(held, SLOTS), lent(marks, SLOTS)};
+    cuzkelor_rival rival = {CUZKELOR_LENT(blocks), CUZKELOR_LENT(held), CUZKELOR_LENT(marks)};
     cuzkelor_block zero = cuzkelor_make_block(0), nine = cuzkelor_make_block(9);
     cuzkelor_variable v = cuzkelor_make_variable(0);
     cuzkelor_request requests[] = {cuzkelor_read(0, v), cuzkelor_write(1, v, 5), cuzkelor_write(1, v, 6)};
@@ -283,6 +286,87 @@ static void out_parameters(void) {
     check(h.account.requests + h.account.fetch + h.account.write_back + h.account.update == 0, "its account");
 }
 
+/* A list whose length is no whole number of records is refused by 2, after 1, and nothing changes. */
+static uint32_t run_numbers(struct host *h, uint32_t processors, size_t length, size_t value_count) {
+    uint32_t numbers[12] = {0}, values[3] = {GARBAGE, GARBAGE, GARBAGE};
+    size_t taken = GARBAGE, place = GARBAGE;
+    struct host before = *h;
+    uint32_t refusal =
+        cuzkelor_run(processors, L, P, M, h->blocks, SLOTS, h->counters, SLOTS, h->marks, SLOTS, h->words, SLOTS * P,
+                     h->memory, M * P, &h->account.requests, &h->account.fetch, &h->account.write_back,
+                     &h->account.update, numbers, length, values, value_count, &taken, &place);
+    if (refusal == 0) return 0;
+    check(taken == 0 && place == 0 && values[0] == GARBAGE, "nothing taken");
+    check(memcmp(h, &before, sizeof before) == 0, "nothing changes");
+    return refusal;
+}
+
+static uint32_t price_numbers(uint32_t processors, size_t entries_length, size_t requests_length) {
+    uint32_t entries[6] = {CUZKELOR_FETCH, 0, 0, CUZKELOR_COMPLETE, 0, 0}, requests[8] = {0}, cost = GARBAGE;
+    uint32_t tables[3][SLOTS];
+    size_t place = GARBAGE;
+    memset(tables, 0x77, sizeof tables);
+    uint32_t refusal = cuzkelor_price(processors, L, P, M, tables[0], SLOTS, tables[1], SLOTS, tables[2], SLOTS,
+                                      entries, entries_length, requests, requests_length, &place, &cost);
+    if (refusal == 0) return 0;
+    check(place == 0 && cost == 0, "no place and no cost");
+    check(tables[0][0] == 0x77777777 && tables[1][0] == 0x77777777 && tables[2][0] == 0x77777777, "tables unchanged");
+    return refusal;
+}
+
+static void whole_lists(void) {
+    struct host h = fresh(SETUP);
+    for (size_t length = 0; length <= 12; length++) {
+        uint32_t refusal = length % CUZKELOR_REQUEST_NUMBERS == 0 ? 0 : CUZKELOR_WRONG_LENGTH;
+        check(run_numbers(&h, N, length, length / 4) == refusal, "a list of requests");
+        check(run_numbers(&h, N, length, (length + 3) / 4) == refusal, "a list of requests with a value for its rest");
+        check(run_numbers(&h, 9, length, length / 4) == CUZKELOR_SETUP_OUT_OF_RANGE, "1 comes first");
+    }
+    for (size_t rest = 1; rest < 4; rest++) {
+        check(price_numbers(N, 6, 4 + rest) == CUZKELOR_WRONG_LENGTH, "the requests of a schedule");
+        check(price_numbers(9, 6, 4 + rest) == CUZKELOR_SETUP_OUT_OF_RANGE, "1 comes first");
+    }
+    check(price_numbers(N, 6, 4) == CUZKELOR_NO_REFUSAL, "whole lists");
+    check(price_numbers(N, 5, 4) == CUZKELOR_WRONG_LENGTH, "a schedule less one number");
+    check(price_numbers(N, 4, 4) == CUZKELOR_WRONG_LENGTH, "a schedule less two numbers");
+    check(price_numbers(9, 5, 4) == CUZKELOR_SETUP_OUT_OF_RANGE, "1 comes first");
+}
+
+static void version(void) {
+    check(cuzkelor_version() == 1 && CUZKELOR_VERSION == 1, "version 1");
+    check(cuzkelor_version_matches(), "the archive belongs to the header");
+}
+
+/* The document's numbers, and those by which nothing changes. */
+static bool is_refusal(uint32_t number) { return (1 <= number && number <= 9) || (20 <= number && number <= 28); }
+
+static bool of_call(uint32_t number) {
+    return number == 1 || number == 2 || number == 5 || number == 20 || number == 21;
+}
+
+static void texts(void) {
+    const char *unknown = cuzkelor_refusal_text(UINT32_MAX);
+    for (uint32_t number = 1; number < 100; number++) {
+        check((strcmp(cuzkelor_refusal_text(number), unknown) != 0) == is_refusal(number), "a text for each number");
+        check((cuzkelor_refuses_call(number) != 0) == of_call(number), "what is refused");
+    }
+    check(strcmp(cuzkelor_refusal_text(0), "no refusal") == 0 && !cuzkelor_refuses_call(0), "0");
+    check(strcmp(cuzkelor_refusal_text(CUZKELOR_DROP_OF_MARKED), "a drop of a marked block") == 0, "25");
+    check(CUZKELOR_SETUP_OUT_OF_RANGE == 1 && CUZKELOR_UNSOUND_TABLES == 20 && CUZKELOR_REQUESTS_LEFT == 28, "names");
+}
+
+static void lengths(void) {
+    cuzkelor_setup most = {CUZKELOR_MOST_PROCESSORS, CUZKELOR_MOST_LINES, CUZKELOR_MOST_BLOCK_WORDS,
+                           CUZKELOR_MOST_BLOCK_COUNT};
+    cuzkelor_setup least = {1, 1, 1, 1}, none = {1, 1, 0, 1}, nine = {9, 1, 1, 1};
+    check(cuzkelor_slot_count(SETUP) == 32 && cuzkelor_word_count(SETUP) == 128, "slots and words");
+    check(cuzkelor_variable_count(SETUP) == 256, "variables");
+    check(cuzkelor_slot_count(most) == 512 && cuzkelor_word_count(most) == 8192, "the most slots and words");
+    check(cuzkelor_variable_count(most) == 4096, "the most variables");
+    check(cuzkelor_setup_in_range(most) && cuzkelor_setup_in_range(least), "in range");
+    check(!cuzkelor_setup_in_range(none) && !cuzkelor_setup_in_range(nine), "out of range");
+}
+
 int main(void) {
     static const struct {
         const char *name;
@@ -303,7 +387,11 @@ int main(void) {
                  {"printed trace", printed_trace},
                  {"a look", a_look},
                  {"a schedule", a_schedule},
-                 {"out-parameters", out_parameters}};
+                 {"out-parameters", out_parameters},
+                 {"whole lists", whole_lists},
+                 {"version", version},
+                 {"texts", texts},
+                 {"lengths", lengths}};
     for (size_t k = 0; k < sizeof cases / sizeof cases[0]; k++) {
         cases[k].play();
         passed(cases[k].name);

@@ -1,274 +1,62 @@
 //! Cuzkelor for Rust: direct-mapped snoopy caches with their bus cycles, and the price of rival
 //! schedules. Safe functions over the proved archive `libhost.a`.
+//!
+//! ```
+//! use cuzkelor::{price, Block, Board, Entry, Request, RivalTables, Variable, TRACE_SETUP};
+//!
+//! fn main() -> Result<(), Box<dyn std::error::Error>> {
+//!     let mut board = Board::new(TRACE_SETUP)?;
+//!     let requests = [Request::write(0, Variable(3), 7), Request::read(1, Variable(3))];
+//!     let values = board.run(&requests)?;
+//!     println!("{values:?} for {} cycles", board.account().total());
+//!
+//!     let fetch = |processor| Entry::fetch(processor, Block(0));
+//!     let schedule = [fetch(0), Entry::COMPLETE, fetch(1), Entry::COMPLETE];
+//!     let cost = price(TRACE_SETUP, &mut RivalTables::sized(TRACE_SETUP), &schedule, &requests)?;
+//!     println!("a rival's schedule costs {cost}");
+//! #   assert_eq!((values, board.account().total(), cost), (vec![7, 7], 8, 8));
+//!     Ok(())
+//! }
+//! ```
+//!
+//! A [`Board`] holds what runs change. The functions [`start`], [`run`], [`look`], [`price`] and
+//! [`count_trace`] take tables that the host keeps itself, and check them; [`raw`] has the archive's
+//! own functions.
+//!
+//! Threads: the archive has no state, so calls on different boards and tables may go on at once.
+//!
+//! # Building
+//!
+//! `rt staticlib host` writes the archive, for x86-64 Linux, to the project's `target/staticlib`.
+//! `CUZKELOR_LIB` names another folder of it.
+//!
+//! # Panics
+//!
+//! The archive's version is asked once, before the first call. Every function that calls the archive
+//! panics if it is not the version that this crate was built for.
 
+#![deny(missing_docs)]
+
+mod account;
+mod archive;
+mod board;
+mod engine;
+mod errors;
 mod lists;
 pub mod raw;
 mod refusal;
+mod rival;
+mod setup;
 mod tables;
+mod trace;
 
-pub use lists::{Entry, Operation, Request, Requests, Schedule};
+pub use account::Account;
+pub use board::Board;
+pub use engine::{look, run, start};
+pub use errors::{PriceError, RunError, TraceError};
+pub use lists::{Action, Entry, Operation, Request};
 pub use refusal::Refusal;
+pub use rival::price;
+pub use setup::{Block, Setup, Variable, TRACE_SETUP};
 pub use tables::{RivalTables, Tables};
-
-/// The board: processors (1 to 8), lines in each cache (1 to 64), words in a block (1 to 16) and
-/// blocks (1 to 256).
-#[derive(Clone, Copy, Debug, PartialEq, Eq)]
-pub struct Setup {
-    pub processors: u32,
-    pub lines: u32,
-    pub block_words: u32,
-    pub block_count: u32,
-}
-
-/// The setup of every trace.
-pub const TRACE_SETUP: Setup = Setup {
-    processors: 4,
-    lines: 8,
-    block_words: 4,
-    block_count: 64,
-};
-
-/// A variable's number. No block number can stand for it.
-#[derive(Clone, Copy, Debug, PartialEq, Eq, PartialOrd, Ord, Hash)]
-pub struct Variable(pub u32);
-
-/// A block's number.
-#[derive(Clone, Copy, Debug, PartialEq, Eq, PartialOrd, Ord, Hash)]
-pub struct Block(pub u32);
-
-impl Setup {
-    pub fn in_range(self) -> bool {
-        (1..=8).contains(&self.processors)
-            && (1..=64).contains(&self.lines)
-            && (1..=16).contains(&self.block_words)
-            && (1..=256).contains(&self.block_count)
-    }
-
-    /// The block in which a variable lies. The setup has to be in range.
-    pub fn block_of(self, variable: Variable) -> Block {
-        Block(variable.0 / self.block_words)
-    }
-}
-
-/// Requests taken, and the cycles of each kind. Each run adds to it.
-#[derive(Clone, Copy, Debug, Default, PartialEq, Eq)]
-pub struct Account {
-    pub requests: u32,
-    pub fetch: u32,
-    pub write_back: u32,
-    pub update: u32,
-}
-
-impl Account {
-    /// The cycles of all kinds.
-    pub fn total(self) -> u64 {
-        u64::from(self.fetch) + u64::from(self.write_back) + u64::from(self.update)
-    }
-}
-
-/// What a run answers. The place is 0 where no request is refused.
-#[derive(Clone, Copy, Debug, PartialEq, Eq)]
-pub struct RunAnswer {
-    pub taken: usize,
-    pub refusal: Option<Refusal>,
-    pub place: usize,
-}
-
-/// What the pricer answers.
-#[derive(Clone, Copy, Debug, PartialEq, Eq)]
-pub enum PriceAnswer {
-    Accepted { cost: u32 },
-    Refused { refusal: Refusal, place: usize },
-}
-
-/// What is reported of a trace. The line is 0 where no line is refused.
-#[derive(Clone, Copy, Debug, PartialEq, Eq)]
-pub struct Report {
-    pub account: Account,
-    pub refusal: Option<Refusal>,
-    pub line: u32,
-}
-
-/// Fills all tables with 0; a refusal changes none.
-pub fn start(setup: Setup, tables: &mut Tables) -> Result<(), Refusal> {
-    // SAFETY: five owned buffers, each with its length.
-    let number = unsafe {
-        raw::cuzkelor_start(
-            setup.processors,
-            setup.lines,
-            setup.block_words,
-            setup.block_count,
-            tables.blocks.as_mut_ptr(),
-            tables.blocks.len(),
-            tables.counters.as_mut_ptr(),
-            tables.counters.len(),
-            tables.marks.as_mut_ptr(),
-            tables.marks.len(),
-            tables.words.as_mut_ptr(),
-            tables.words.len(),
-            tables.memory.as_mut_ptr(),
-            tables.memory.len(),
-        )
-    };
-    Refusal::numbered(number).map_or(Ok(()), Err)
-}
-
-/// The words of a block in a processor's cache; none where it is not held there.
-pub fn look(setup: Setup, tables: &Tables, processor: u32, block: Block) -> &[u32] {
-    let (blocks, counters, words) = (&tables.blocks, &tables.counters, &tables.words);
-    // SAFETY: three shared buffers, each with its length; neither call writes.
-    let (offset, length) = unsafe {
-        (
-            raw::cuzkelor_look_offset(
-                setup.processors,
-                setup.lines,
-                setup.block_words,
-                setup.block_count,
-                blocks.as_ptr(),
-                blocks.len(),
-                counters.as_ptr(),
-                counters.len(),
-                words.as_ptr(),
-                words.len(),
-                processor,
-                block.0,
-            ),
-            raw::cuzkelor_look_length(
-                setup.processors,
-                setup.lines,
-                setup.block_words,
-                setup.block_count,
-                blocks.as_ptr(),
-                blocks.len(),
-                counters.as_ptr(),
-                counters.len(),
-                words.as_ptr(),
-                words.len(),
-                processor,
-                block.0,
-            ),
-        )
-    };
-    &words[offset..offset + length]
-}
-
-/// Serves the requests in turn, to the first refused one, and adds to the account. `values` has one
-/// word for each request, which gets the value supplied or written. By 1, 2, 20 and 21 nothing
-/// changes; by 3, 4 and 22 everything is as the requests before the refused one left it.
-pub fn run(
-    setup: Setup,
-    tables: &mut Tables,
-    account: &mut Account,
-    requests: &Requests,
-    values: &mut [u32],
-) -> RunAnswer {
-    let numbers = requests.numbers();
-    let (mut taken, mut place) = (0, 0);
-    // SAFETY: the tables, the account, the values and the two out-parameters are apart from each
-    // other, as mutable borrows are, and each buffer goes with its length.
-    let number = unsafe {
-        raw::cuzkelor_run(
-            setup.processors,
-            setup.lines,
-            setup.block_words,
-            setup.block_count,
-            tables.blocks.as_mut_ptr(),
-            tables.blocks.len(),
-            tables.counters.as_mut_ptr(),
-            tables.counters.len(),
-            tables.marks.as_mut_ptr(),
-            tables.marks.len(),
-            tables.words.as_mut_ptr(),
-            tables.words.len(),
-            tables.memory.as_mut_ptr(),
-            tables.memory.len(),
-            &mut account.requests,
-            &mut account.fetch,
-            &mut account.write_back,
-            &mut account.update,
-            numbers.as_ptr(),
-            numbers.len(),
-            values.as_mut_ptr(),
-            values.len(),
-            &mut taken,
-            &mut place,
-        )
-    };
-    RunAnswer {
-        taken,
-        refusal: Refusal::numbered(number),
-        place,
-    }
-}
-
-/// Plays a rival's schedule for the requests from empty caches, and adds up its cost. Accepted, the
-/// tables show the rival's last copies; by 1, 2 and 5 they do not change; by any other refusal they
-/// are all 0, and the place of 28 is the schedule's length.
-pub fn price(
-    setup: Setup,
-    tables: &mut RivalTables,
-    schedule: &Schedule,
-    requests: &Requests,
-) -> PriceAnswer {
-    let (entries, numbers) = (schedule.numbers(), requests.numbers());
-    let (mut place, mut cost) = (0, 0);
-    // SAFETY: as in `run`.
-    let number = unsafe {
-        raw::cuzkelor_price(
-            setup.processors,
-            setup.lines,
-            setup.block_words,
-            setup.block_count,
-            tables.blocks.as_mut_ptr(),
-            tables.blocks.len(),
-            tables.held.as_mut_ptr(),
-            tables.held.len(),
-            tables.marks.as_mut_ptr(),
-            tables.marks.len(),
-            entries.as_ptr(),
-            entries.len(),
-            numbers.as_ptr(),
-            numbers.len(),
-            &mut place,
-            &mut cost,
-        )
-    };
-    match Refusal::numbered(number) {
-        None => PriceAnswer::Accepted { cost },
-        Some(refusal) => PriceAnswer::Refused { refusal, place },
-    }
-}
-
-/// Counts a whole din trace over tables of `TRACE_SETUP`, which it starts itself. By 2 they do not
-/// change; by any other refusal they are as the lines before the refused one left them.
-pub fn count_trace(bytes: &[u8], tables: &mut Tables) -> Report {
-    let mut account = Account::default();
-    let mut line = 0;
-    // SAFETY: as in `run`.
-    let number = unsafe {
-        raw::cuzkelor_count_trace(
-            bytes.as_ptr(),
-            bytes.len(),
-            tables.blocks.as_mut_ptr(),
-            tables.blocks.len(),
-            tables.counters.as_mut_ptr(),
-            tables.counters.len(),
-            tables.marks.as_mut_ptr(),
-            tables.marks.len(),
-            tables.words.as_mut_ptr(),
-            tables.words.len(),
-            tables.memory.as_mut_ptr(),
-            tables.memory.len(),
-            &mut account.requests,
-            &mut account.fetch,
-            &mut account.write_back,
-            &mut account.update,
-            &mut line,
-        )
-    };
-    Report {
-        account,
-        refusal: Refusal::numbered(number),
-        line,
-    }
-}
+pub use trace::count_trace;

@@ -1,93 +1,85 @@
 use std::fmt;
 
-/// Why something was refused. By 1, 2, 5, 20 and 21 nothing that was lent changes.
-#[derive(Clone, Copy, Debug, PartialEq, Eq, PartialOrd, Ord, Hash)]
-#[repr(u32)]
-pub enum Refusal {
-    SetupOutOfRange = 1,
-    WrongLength = 2,
-    NoSuchProcessor = 3,
-    NoSuchVariable = 4,
-    TooMany = 5,
-    MalformedLine = 6,
-    UnknownLabel = 7,
-    NoSuchBlock = 8,
-    ReadByBroadcast = 9,
-    UnsoundTables = 20,
-    ImpossibleAccount = 21,
-    AccountFull = 22,
-    LineInUse = 23,
-    BlockNotHeld = 24,
-    DropOfMarked = 25,
-    NoRequestLeft = 26,
-    CompletionNotHeld = 27,
-    RequestsLeft = 28,
+/// Makes the enum, and what is known of each refusal, from the rows of the C header.
+macro_rules! refusals {
+    ($($name:ident = $number:literal, $refused:ident, $text:literal;)*) => {
+        /// Why something was refused. A later archive may have more reasons.
+        #[derive(Clone, Copy, Debug, PartialEq, Eq, PartialOrd, Ord, Hash)]
+        #[non_exhaustive]
+        #[repr(u32)]
+        pub enum Refusal {
+            $(
+                #[doc = concat!("Number ", $number, ": ", $text, ".")]
+                $name = $number,
+            )*
+        }
+
+        impl Refusal {
+            /// Every refusal, in the order of the numbers.
+            pub const ALL: &'static [Refusal] = &[$(Refusal::$name),*];
+
+            /// The refusal with this number; none for 0 and for a number that no refusal has.
+            #[must_use]
+            pub const fn from_number(number: u32) -> Option<Refusal> {
+                match number {
+                    $($number => Some(Refusal::$name),)*
+                    _ => None,
+                }
+            }
+
+            /// The condition in words.
+            #[must_use]
+            pub const fn text(self) -> &'static str {
+                match self {
+                    $(Refusal::$name => $text,)*
+                }
+            }
+
+            const fn refused(self) -> Refused {
+                match self {
+                    $(Refusal::$name => Refused::$refused,)*
+                }
+            }
+        }
+    };
 }
 
-use Refusal::*;
+/// What a refusal refuses.
+#[derive(PartialEq, Eq)]
+enum Refused {
+    /// The call as a whole.
+    Call,
+    /// A request, an entry or a line, or the end of a schedule.
+    Place,
+}
 
-const ALL: [Refusal; 18] = [
-    SetupOutOfRange,
-    WrongLength,
-    NoSuchProcessor,
-    NoSuchVariable,
-    TooMany,
-    MalformedLine,
-    UnknownLabel,
-    NoSuchBlock,
-    ReadByBroadcast,
-    UnsoundTables,
-    ImpossibleAccount,
-    AccountFull,
-    LineInUse,
-    BlockNotHeld,
-    DropOfMarked,
-    NoRequestLeft,
-    CompletionNotHeld,
-    RequestsLeft,
-];
+include!(concat!(env!("OUT_DIR"), "/refusals.rs"));
 
 impl Refusal {
-    pub fn number(self) -> u32 {
+    /// The number.
+    #[must_use]
+    pub const fn number(self) -> u32 {
         self as u32
     }
 
-    /// The refusal with this number; none for 0.
-    pub(crate) fn numbered(number: u32) -> Option<Refusal> {
-        if number == 0 {
-            return None;
-        }
-        let found = ALL.into_iter().find(|refusal| refusal.number() == number);
-        Some(found.expect("the archive gives no other number"))
+    /// Whether the call as a whole is refused, so that nothing lent has changed and the place is 0.
+    #[must_use]
+    pub fn refuses_call(self) -> bool {
+        self.refused() == Refused::Call
     }
 
-    fn condition(self) -> &'static str {
-        match self {
-            SetupOutOfRange => "a setup number out of range",
-            WrongLength => "a lent buffer of the wrong length",
-            NoSuchProcessor => "no such processor",
-            NoSuchVariable => "no such variable",
-            TooMany => "over 1,000,000 requests or 4,000,000 entries",
-            MalformedLine => "trace line malformed",
-            UnknownLabel => "trace label above 2",
-            NoSuchBlock => "no such block",
-            ReadByBroadcast => "a read completed by broadcast",
-            UnsoundTables => "tables not sound",
-            ImpossibleAccount => "account impossible",
-            AccountFull => "account already at 1,000,000 requests or more",
-            LineInUse => "fetch into a line that isn't empty",
-            BlockNotHeld => "block not held",
-            DropOfMarked => "drop of a marked block",
-            NoRequestLeft => "completion with no request left",
-            CompletionNotHeld => "completion, block not held",
-            RequestsLeft => "schedule ends with requests left",
+    /// An answer of the archive, which is 0 where nothing is refused.
+    pub(crate) fn check(number: u32) -> Result<(), Refusal> {
+        if number == 0 {
+            return Ok(());
         }
+        Err(Refusal::from_number(number).expect("an archive of this version gives no other number"))
     }
 }
 
 impl fmt::Display for Refusal {
     fn fmt(&self, f: &mut fmt::Formatter<'_>) -> fmt::Result {
-        write!(f, "refused by {}: {}", self.number(), self.condition())
+        write!(f, "refused by {}: {}", self.number(), self.text())
     }
 }
 

@@ -1,53 +1,55 @@
 use crate::{start, Refusal, Setup};
 
-/// The engine's tables, processor by processor and line by line. The fields are open: the archive
-/// checks lengths and soundness itself.
+/// The engine's tables, processor by processor and line by line. The fields are open: lengths and
+/// soundness are checked at each run.
 #[derive(Clone, Debug, PartialEq, Eq)]
 pub struct Tables {
+    /// The block in each line; 0 in an empty one.
     pub blocks: Vec<u32>,
+    /// The counter of each line; 0 in an empty one, and only there.
     pub counters: Vec<u32>,
+    /// The dirty mark of each line: 0 or 1.
     pub marks: Vec<u32>,
+    /// The words of each line, block by block.
     pub words: Vec<u32>,
+    /// The words of main memory, by variable.
     pub memory: Vec<u32>,
 }
 
-/// The pricer's tables. It clears them itself.
+/// The pricer's tables, processor by processor and line by line. It clears them itself.
 #[derive(Clone, Debug, PartialEq, Eq)]
 pub struct RivalTables {
+    /// The block in each line; 0 in an empty one.
     pub blocks: Vec<u32>,
+    /// Whether each line holds its block: 0 or 1.
     pub held: Vec<u32>,
+    /// The dirty mark of each line: 0 or 1.
     pub marks: Vec<u32>,
-}
-
-/// The lines of all caches; 0 where the setup is out of range, so that no length overflows.
-fn slot_count(setup: Setup) -> usize {
-    if setup.in_range() {
-        setup.processors as usize * setup.lines as usize
-    } else {
-        0
-    }
 }
 
 impl Tables {
     /// Tables of the lengths that a setup requires, all 0; empty where it is out of range.
+    #[must_use]
     pub fn sized(setup: Setup) -> Tables {
-        let slots = slot_count(setup);
-        let p = setup.block_words as usize;
-        let variables = if slots == 0 {
-            0
-        } else {
-            setup.block_count as usize * p
-        };
+        let slots = setup.slot_count();
         Tables {
             blocks: vec![0; slots],
             counters: vec![0; slots],
             marks: vec![0; slots],
-            words: vec![0; slots * p],
-            memory: vec![0; variables],
+            words: vec![0; setup.word_count()],
+            memory: vec![0; setup.variable_count()],
         }
     }
 
-    /// Started tables; refused where the setup is.
+    /// Started tables.
+    ///
+    /// # Errors
+    ///
+    /// [`SetupOutOfRange`](Refusal::SetupOutOfRange).
+    ///
+    /// # Panics
+    ///
+    /// If the archive is of another version.
     pub fn started(setup: Setup) -> Result<Tables, Refusal> {
         let mut tables = Tables::sized(setup);
         start(setup, &mut tables)?;
@@ -57,8 +59,9 @@ impl Tables {
 
 impl RivalTables {
     /// Tables of the lengths that a setup requires, all 0; empty where it is out of range.
+    #[must_use]
     pub fn sized(setup: Setup) -> RivalTables {
-        let slots = slot_count(setup);
+        let slots = setup.slot_count();
         RivalTables {
             blocks: vec![0; slots],
             held: vec![0; slots],

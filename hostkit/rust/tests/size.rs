@@ -1,9 +1,6 @@
 //! The pricer at its limits of size: accepted there, refused one past them, and linear in time.
 
-use cuzkelor::{
-    price, Block, Entry, PriceAnswer, Refusal, Request, Requests, RivalTables, Schedule, Setup,
-    Variable,
-};
+use cuzkelor::{price, Block, Entry, Refusal, Request, RivalTables, Setup, Variable};
 use std::time::Duration;
 
 mod clock;
@@ -27,19 +24,16 @@ fn request(place: u32) -> Request {
 /// Four entries that serve a request and leave the caches empty again, at 4 + 0 + 4 + 0 cycles.
 fn round(place: u32) -> [Entry; 4] {
     let request = request(place);
-    let variable = match request.operation {
-        cuzkelor::Operation::Read(variable) | cuzkelor::Operation::Write(variable, _) => variable,
-    };
-    let (i, block) = (request.processor, SETUP.block_of(variable));
+    let (i, block) = (request.processor(), SETUP.block_of(request.variable()));
     [
-        Entry::Fetch(i, block),
-        Entry::Complete,
-        Entry::WriteBack(i, block),
-        Entry::Drop(i, block),
+        Entry::fetch(i, block),
+        Entry::COMPLETE,
+        Entry::write_back(i, block),
+        Entry::drop(i, block),
     ]
 }
 
-fn lists(rounds: u32) -> (Schedule, Requests) {
+fn lists(rounds: u32) -> (Vec<Entry>, Vec<Request>) {
     let schedule = (0..rounds).flat_map(round).collect();
     (schedule, (0..rounds).map(request).collect())
 }
@@ -59,7 +53,7 @@ fn least_time(rounds: u32) -> Duration {
     let call = |_| {
         let mut tables = used_tables();
         let (answer, time) = clock::timed(|| price(SETUP, &mut tables, &schedule, &requests));
-        assert_eq!(answer, PriceAnswer::Accepted { cost: 8 * rounds });
+        assert_eq!(answer, Ok(8 * rounds));
         assert_eq!(tables, RivalTables::sized(SETUP));
         time
     };
@@ -75,37 +69,21 @@ fn linear_up_to_the_limit() {
     assert!(times[2] < 8 * times[0], "time grows with length only");
 }
 
-fn refused_by_5(schedule: &Schedule, requests: &Requests) {
+fn refused_by_5(schedule: &[Entry], requests: &[Request]) {
     let mut tables = used_tables();
-    let refused = PriceAnswer::Refused {
-        refusal: Refusal::TooMany,
-        place: 0,
-    };
-    assert_eq!(price(SETUP, &mut tables, schedule, requests), refused);
+    let error = price(SETUP, &mut tables, schedule, requests).expect_err("too many");
+    assert_eq!((error.refusal, error.place), (Refusal::TooMany, 0));
     assert_eq!(tables, used_tables(), "tables unchanged");
 }
 
 #[test]
 fn one_past_the_limits() {
     let (mut schedule, mut requests) = lists(1_000_000);
-    schedule.push(Entry::Fetch(0, Block(0)));
+    schedule.push(Entry::fetch(0, Block(0)));
     assert_eq!(schedule.len(), 4_000_001);
     refused_by_5(&schedule, &requests);
     requests.push(request(0));
     assert_eq!(requests.len(), 1_000_001);
-    refused_by_5(&Schedule::default(), &requests);
+    refused_by_5(&[], &requests);
     println!("size: 4,000,001 entries and 1,000,001 requests refused by 5");
-}
-
-/// Numbers that name no further entry or request are not counted by 5.
-#[test]
-fn numbers_that_name_nothing() {
-    let (schedule, requests) = lists(1_000_000);
-    let answer = price(
-        SETUP,
-        &mut used_tables(),
-        &Schedule::from_numbers([schedule.numbers(), &[9; 2]].concat()),
-        &Requests::from_numbers([requests.numbers(), &[9; 3]].concat()),
-    );
-    assert_eq!(answer, PriceAnswer::Accepted { cost: 8_000_000 });
 }

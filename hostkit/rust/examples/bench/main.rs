@@ -5,7 +5,7 @@
 mod clock;
 mod plain;
 
-use cuzkelor::{run, Account, Request, Requests, Setup, Tables, Variable};
+use cuzkelor::{run, Account, Request, Setup, Tables, Variable};
 use std::time::Duration;
 
 const BAR: f64 = 1.25;
@@ -67,7 +67,7 @@ impl Left {
     }
 }
 
-fn through_archive(setup: Setup, lists: &[Requests], left: &mut Left) {
+fn through_archive(setup: Setup, lists: &[Vec<Request>], left: &mut Left) {
     for list in lists {
         let answer = run(
             setup,
@@ -76,33 +76,33 @@ fn through_archive(setup: Setup, lists: &[Requests], left: &mut Left) {
             list,
             &mut left.values,
         );
-        assert_eq!(answer.taken, list.len());
+        assert_eq!(answer, Ok(()));
     }
 }
 
-fn through_plain(setup: Setup, lists: &[Requests], left: &mut Left) {
+fn through_plain(setup: Setup, lists: &[Vec<Request>], left: &mut Left) {
     for list in lists {
         let answer = plain::run(
             setup,
             &mut left.tables,
             &mut left.account,
-            list.numbers(),
+            Request::numbers(list),
             &mut left.values,
         );
         assert_eq!(answer.0, list.len());
     }
 }
 
-type Engine = fn(Setup, &[Requests], &mut Left);
+type Engine = fn(Setup, &[Vec<Request>], &mut Left);
 
-fn timed(engine: Engine, setup: Setup, lists: &[Requests]) -> (Duration, Left) {
+fn timed(engine: Engine, setup: Setup, lists: &[Vec<Request>]) -> (Duration, Left) {
     let mut left = Left::fresh(setup, lists[0].len());
     let ((), time) = clock::timed(|| engine(setup, lists, &mut left));
     (time, left)
 }
 
 /// The least times of both engines, in turn.
-fn least(setup: Setup, lists: &[Requests], times: u32) -> (Duration, Duration) {
+fn least(setup: Setup, lists: &[Vec<Request>], times: u32) -> (Duration, Duration) {
     let mut least = (Duration::MAX, Duration::MAX);
     for _ in 0..times {
         let (archive, left) = timed(through_archive, setup, lists);
@@ -115,7 +115,7 @@ fn least(setup: Setup, lists: &[Requests], times: u32) -> (Duration, Duration) {
 
 fn measure(name: &str, setup: Setup, requests: usize, run_length: usize, times: u32) -> f64 {
     let mut draw = Draw(1988);
-    let lists: Vec<Requests> = (0..requests / run_length)
+    let lists: Vec<Vec<Request>> = (0..requests / run_length)
         .map(|_| (0..run_length).map(|_| request(&mut draw, setup)).collect())
         .collect();
     let (archive, plain) = least(setup, &lists, times);

@@ -246,7 +246,7 @@ fn used(draw: &mut Draw, board: Board) -> Lent {
 fn run_more(draw: &mut Draw, board: Board, lent: &mut Lent, count: usize) -> u32 {
     let asks = draw.asks(board, count);
     lent.values = draw.words(count);
-    compared(board, lent, &asks, &lend::requests(&asks)).refusal
+    compared(board, lent, &asks).refusal
 }
 
 struct Changed {

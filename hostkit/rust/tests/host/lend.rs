@@ -2,10 +2,7 @@
 
 use crate::draw::Draw;
 use crate::model::{sizes, Ask, Board, Ledger, Move};
-use cuzkelor::{
-    Account, Block, Entry, Refusal, Request, Requests, RivalTables, Schedule, Setup, Tables,
-    Variable,
-};
+use cuzkelor::{Account, Block, Entry, Refusal, Request, RivalTables, Setup, Tables, Variable};
 
 /// The refusal number, 0 for none.
 pub fn number(refusal: Option<Refusal>) -> u32 {
@@ -82,13 +79,12 @@ fn request(ask: &Ask) -> Request {
     }
 }
 
-pub fn requests(asks: &[Ask]) -> Requests {
+pub fn requests(asks: &[Ask]) -> Vec<Request> {
     asks.iter().map(request).collect()
 }
 
-/// The same requests in other numbers: any operation but 1 reads, whatever its value is, and fewer
-/// than four numbers at the end name no request.
-pub fn odd_requests(draw: &mut Draw, asks: &[Ask]) -> Requests {
+/// The same requests in other numbers: any operation but 1 reads, whatever its value is.
+pub fn odd_requests(draw: &mut Draw, asks: &[Ask]) -> Vec<u32> {
     let mut numbers = Vec::new();
     for ask in asks {
         let operation = draw.pick(&[0, 2, 3, u32::MAX]);
@@ -98,28 +94,26 @@ pub fn odd_requests(draw: &mut Draw, asks: &[Ask]) -> Requests {
         };
         numbers.extend([ask.processor, operation, ask.variable, value]);
     }
-    let rest = draw.index(4);
-    numbers.extend(draw.words(rest));
-    Requests::from_numbers(numbers)
+    numbers
 }
 
 fn entry(entry: &Move) -> Entry {
     match *entry {
-        Move::Fetch(i, block) => Entry::Fetch(i, Block(block)),
-        Move::WriteBack(i, block) => Entry::WriteBack(i, Block(block)),
-        Move::Drop(i, block) => Entry::Drop(i, Block(block)),
-        Move::Complete => Entry::Complete,
-        Move::Broadcast => Entry::CompleteByBroadcast,
+        Move::Fetch(i, block) => Entry::fetch(i, Block(block)),
+        Move::WriteBack(i, block) => Entry::write_back(i, Block(block)),
+        Move::Drop(i, block) => Entry::drop(i, Block(block)),
+        Move::Complete => Entry::COMPLETE,
+        Move::Broadcast => Entry::COMPLETE_BY_BROADCAST,
     }
 }
 
-pub fn schedule(moves: &[Move]) -> Schedule {
+pub fn schedule(moves: &[Move]) -> Vec<Entry> {
     moves.iter().map(entry).collect()
 }
 
-/// The same schedule in other numbers: any kind above 3 completes by broadcast, a completion names
-/// neither processor nor block, and fewer than three numbers at the end name no entry.
-pub fn odd_schedule(draw: &mut Draw, moves: &[Move]) -> Schedule {
+/// The same schedule in other numbers: any kind above 3 completes by broadcast, and a completion
+/// names neither processor nor block.
+pub fn odd_schedule(draw: &mut Draw, moves: &[Move]) -> Vec<u32> {
     let mut numbers = Vec::new();
     for entry in moves {
         numbers.extend(match *entry {
@@ -130,7 +124,15 @@ pub fn odd_schedule(draw: &mut Draw, moves: &[Move]) -> Schedule {
             Move::Broadcast => [draw.pick(&[4, 5, u32::MAX]), draw.word(), draw.word()],
         });
     }
-    let rest = draw.index(3);
-    numbers.extend(draw.words(rest));
-    Schedule::from_numbers(numbers)
+    numbers
+}
+
+/// Makes a list of records no whole number of them: some numbers too many, or too few.
+pub fn cut_record(draw: &mut Draw, numbers: &mut Vec<u32>, record: usize) {
+    let part = draw.within(1, record as u32 - 1) as usize;
+    if numbers.is_empty() || draw.chance(50) {
+        numbers.extend(draw.words(part));
+    } else {
+        numbers.truncate(numbers.len() - part);
+    }
 }

@@ -94,7 +94,7 @@ fn looks() {
             values: vec![0; 100],
         };
         let asks = draw.asks(board, 100);
-        compared(board, &mut lent, &asks, &lend::requests(&asks));
+        compared(board, &mut lent, &asks);
         look_everywhere(board, &lent.tables);
         look_around(&mut draw, board, &lent.tables, &mut counts);
         let bad = draw.board_out_of_range(board);

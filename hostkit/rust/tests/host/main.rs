@@ -1,6 +1,7 @@
 //! The archive beside a model coded separately from the document: random lists of runs, schedules
 //! and traces, every answer and every lent buffer compared, and the document's own cases.
 
+mod boards;
 mod bound;
 mod damage;
 mod draw;

@@ -3,7 +3,6 @@
 use crate::draw::Draw;
 use crate::lend;
 use crate::model::{price, rival_shown, Ask, Board, Caches, Move, Rival};
-use cuzkelor::PriceAnswer;
 
 /// What a rival does with the other copies of a block that is written.
 #[derive(Clone, Copy)]
@@ -202,9 +201,7 @@ pub fn accepted_cost(draw: &mut Draw, board: Board, moves: &[Move], asks: &[Ask]
         &lend::schedule(moves),
         &lend::requests(asks),
     );
-    let accepted = PriceAnswer::Accepted {
-        cost: cost.try_into().expect("a cost of 32 bits"),
-    };
+    let accepted = Ok(cost.try_into().expect("a cost of 32 bits"));
     assert_eq!(answer, accepted, "on {board:?} for {asks:?}: {moves:?}");
     assert_eq!(tables, rival_shown(&rival), "the rival's last copies");
     cost

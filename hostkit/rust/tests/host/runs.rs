@@ -3,10 +3,10 @@
 
 use crate::draw::Draw;
 use crate::lend;
-use crate::model::{read, shown, sizes, Ask, Board, Caches, Ledger, Outcome};
+use crate::model::{count, read, shown, sizes, Ask, Board, Caches, Ledger, Outcome};
 use crate::rivals::{self, Closeness};
 use crate::tally::Tally;
-use cuzkelor::{Account, Requests, Tables};
+use cuzkelor::{raw, Account, Request, Tables};
 use std::collections::BTreeMap;
 
 /// Whether condition 2 meets tables on a setup in range.
@@ -26,12 +26,12 @@ pub struct Lent {
     pub values: Vec<u32>,
 }
 
-/// The facts that a run starts from, or its refusal at once.
-fn begin(board: Board, lent: &Lent, count: usize) -> Result<Caches, u32> {
+/// The facts that a run of a list of numbers starts from, or its refusal at once.
+fn begin(board: Board, lent: &Lent, numbers: &[u32]) -> Result<Caches, u32> {
     if !board.in_range() {
         return Err(1);
     }
-    if wrong_lengths(board, &lent.tables) || lent.values.len() != count {
+    if wrong_lengths(board, &lent.tables) || 4 * lent.values.len() != numbers.len() {
         return Err(2);
     }
     let caches = read(board, &lent.tables).ok_or(20u32)?;
@@ -41,10 +41,11 @@ fn begin(board: Board, lent: &Lent, count: usize) -> Result<Caches, u32> {
     Ok(caches)
 }
 
-/// What a run has to answer and to leave behind, whatever came in.
-fn expected(board: Board, lent: &Lent, asks: &[Ask]) -> (Outcome, Lent) {
+/// What a run has to answer and to leave behind, whatever came in. The numbers are those of the
+/// requests if they are a whole list.
+fn expected(board: Board, lent: &Lent, asks: &[Ask], numbers: &[u32]) -> (Outcome, Lent) {
     let mut after = lent.clone();
-    let outcome = match begin(board, lent, asks.len()) {
+    let outcome = match begin(board, lent, numbers) {
         Err(refusal) => Outcome::at_once(refusal),
         Ok(mut caches) => {
             let mut ledger = lend::ledger(lent.account);
@@ -57,9 +58,8 @@ fn expected(board: Board, lent: &Lent, asks: &[Ask]) -> (Outcome, Lent) {
     (outcome, after)
 }
 
-/// Runs the archive on what is lent, compares everything, and gives the common outcome.
-pub fn compared(board: Board, lent: &mut Lent, asks: &[Ask], requests: &Requests) -> Outcome {
-    let (outcome, after) = expected(board, lent, asks);
+/// Runs through the safe function.
+fn safe_run(board: Board, lent: &mut Lent, requests: &[Request]) -> Outcome {
     let answer = cuzkelor::run(
         lend::setup(board),
         &mut lent.tables,
@@ -67,14 +67,89 @@ pub fn compared(board: Board, lent: &mut Lent, asks: &[Ask], requests: &Requests
         requests,
         &mut lent.values,
     );
-    let answered = Outcome {
-        taken: answer.taken,
-        refusal: lend::number(answer.refusal),
-        place: answer.place,
+    match answer {
+        Ok(()) => Outcome {
+            taken: requests.len(),
+            refusal: 0,
+            place: 0,
+        },
+        Err(error) => Outcome {
+            taken: error.taken,
+            refusal: error.refusal.number(),
+            place: error.place,
+        },
+    }
+}
+
+/// Calls the archive itself, with out-parameters that hold anything before.
+fn raw_run(board: Board, lent: &mut Lent, numbers: &[u32]) -> Outcome {
+    let Lent {
+        tables,
+        account,
+        values,
+    } = lent;
+    let (mut taken, mut place) = (0x5555, 0xaaaa);
+    // SAFETY: owned buffers with their lengths, apart from each other.
+    let refusal = unsafe {
+        raw::cuzkelor_run(
+            board.n,
+            board.l,
+            board.p,
+            board.m,
+            tables.blocks.as_mut_ptr(),
+            tables.blocks.len(),
+            tables.counters.as_mut_ptr(),
+            tables.counters.len(),
+            tables.marks.as_mut_ptr(),
+            tables.marks.len(),
+            tables.words.as_mut_ptr(),
+            tables.words.len(),
+            tables.memory.as_mut_ptr(),
+            tables.memory.len(),
+            &mut account.requests,
+            &mut account.fetch,
+            &mut account.write_back,
+            &mut account.update,
+            numbers.as_ptr(),
+            numbers.len(),
+            values.as_mut_ptr(),
+            values.len(),
+            &mut taken,
+            &mut place,
+        )
     };
+    Outcome {
+        taken,
+        refusal,
+        place,
+    }
+}
+
+/// Runs the archive on what is lent, compares everything, and gives the common outcome.
+pub fn compared(board: Board, lent: &mut Lent, asks: &[Ask]) -> Outcome {
+    let requests = lend::requests(asks);
+    let (outcome, after) = expected(board, lent, asks, Request::numbers(&requests));
+    let answered = safe_run(board, lent, &requests);
     assert_eq!(answered, outcome, "the answer on {board:?} to {asks:?}");
     assert_eq!(*lent, after, "what was lent on {board:?} to {asks:?}");
     outcome
+}
+
+/// The same with numbers that name the requests, or that are no whole list of requests.
+fn compared_numbers(board: Board, lent: &mut Lent, asks: &[Ask], numbers: &[u32]) -> Outcome {
+    let (outcome, after) = expected(board, lent, asks, numbers);
+    let answered = raw_run(board, lent, numbers);
+    assert_eq!(answered, outcome, "the answer on {board:?} to {numbers:?}");
+    assert_eq!(*lent, after, "what was lent on {board:?} to {numbers:?}");
+    outcome
+}
+
+/// The same with requests in either of their forms.
+fn compared_either(draw: &mut Draw, board: Board, lent: &mut Lent, asks: &[Ask]) -> Outcome {
+    match draw.chance(50) {
+        true => compared(board, lent, asks),
+        false => compared_numbers(board, lent, asks, &lend::odd_requests(draw, asks)),
+    }
 }
 
 /// The cycles of an account near a limit of 21, or on it.
@@ -135,19 +210,21 @@ fn wrong_length(draw: &mut Draw, lent: &mut Lent) {
     lent.values.resize(length, 0);
 }
 
+/// Numbers that are no whole list of requests, with a value for each request in it, or also for the
+/// one that is cut.
+fn cut_list(draw: &mut Draw, lent: &mut Lent, asks: &[Ask]) -> Vec<u32> {
+    let mut numbers = lend::odd_requests(draw, asks);
+    lend::cut_record(draw, &mut numbers, 4);
+    let requests = numbers.len() / 4 + draw.index(2);
+    lent.values.resize(requests, 0);
+    numbers
+}
+
 fn length_of_run(draw: &mut Draw) -> usize {
     match draw.below(10) {
         0 => 0,
         1 => draw.index(400),
         _ => draw.index(60),
-    }
-}
-
-/// The requests as a list in either of their forms.
-fn listed(draw: &mut Draw, asks: &[Ask]) -> Requests {
-    match draw.chance(50) {
-        true => lend::requests(asks),
-        false => lend::odd_requests(draw, asks),
     }
 }
 
@@ -206,7 +283,7 @@ impl List {
     fn go_on(&mut self, draw: &mut Draw) -> Outcome {
         let asks = self.asks(draw);
         let mut lent = self.lent(draw, asks.len());
-        let outcome = compared(self.board, &mut lent, &asks, &listed(draw, &asks));
+        let outcome = compared_either(draw, self.board, &mut lent, &asks);
         self.last_values(&asks[..outcome.taken], &lent.values);
         let mut values = lent.values.clone();
         let carried = self.caches.run(&mut self.ledger, &asks, &mut values);
@@ -235,12 +312,16 @@ impl List {
         let asks = self.asks(draw);
         let mut lent = self.lent(draw, asks.len());
         let mut board = self.board;
+        let mut cut = None;
         let causes: u32 = draw.pick(&[1, 2, 4, 8, 3, 6, 12, 15]);
         if causes & 1 != 0 {
             board = draw.board_out_of_range(self.board);
         }
         if causes & 2 != 0 {
-            wrong_length(draw, &mut lent);
+            match draw.chance(75) {
+                true => wrong_length(draw, &mut lent),
+                false => cut = Some(cut_list(draw, &mut lent, &asks)),
+            }
         }
         if causes & 4 != 0 {
             lent.tables.counters.fill(self.board.p + 1);
@@ -249,7 +330,10 @@ impl List {
             lent.account = impossible_account(draw, self.board);
         }
         let before = lent.clone();
-        let outcome = compared(board, &mut lent, &asks, &listed(draw, &asks));
+        let outcome = match cut {
+            Some(numbers) => compared_numbers(board, &mut lent, &asks, &numbers),
+            None => compared_either(draw, board, &mut lent, &asks),
+        };
         let first = [1, 2, 20, 21][causes.trailing_zeros() as usize];
         assert_eq!(outcome, Outcome::at_once(first));
         assert_eq!(lent, before, "nothing changes");
@@ -291,6 +375,32 @@ fn lists_of_runs() {
     println!("lists of runs: {lists} lists, {requests} requests taken");
     closeness.print("lists of runs");
     tally.close("lists of runs", &[0, 1, 2, 3, 4, 20, 21, 22]);
+}
+
+/// A list of any length on its own: 2 unless it is whole and has as many values.
+#[test]
+fn whole_lists() {
+    let board = count(b"").caches.board;
+    let read = Ask {
+        processor: 0,
+        variable: 0,
+        write: None,
+    };
+    for (length, values) in (0..=12).flat_map(|length| [0, 1, 2, 3].map(|values| (length, values)))
+    {
+        let mut lent = Lent {
+            tables: shown(&Caches::fresh(board)),
+            account: Account::default(),
+            values: vec![7; values],
+        };
+        let asks = vec![read; length / 4];
+        let outcome = compared_numbers(board, &mut lent, &asks, &vec![0; length]);
+        let refusal = if length == 4 * values { 0 } else { 2 };
+        assert_eq!(
+            outcome.refusal, refusal,
+            "{length} numbers, {values} values"
+        );
+    }
 }
 
 #[test]

@@ -5,7 +5,7 @@ use crate::lend;
 use crate::model::{price, rival_shown, sizes, Ask, Board, Move, Rival};
 use crate::rivals::any_legal;
 use crate::tally::Tally;
-use cuzkelor::{raw, PriceAnswer, Requests, RivalTables, Schedule};
+use cuzkelor::{raw, Entry, Request, RivalTables};
 use std::fmt;
 
 /// What the pricer is asked, whatever came in.
@@ -15,8 +15,8 @@ struct Question {
     asks: Vec<Ask>,
 }
 
-/// Its two lists as they are lent.
-type Lists = (Schedule, Requests);
+/// Its two lists as numbers: the schedule's entries and the requests.
+type Numbers = (Vec<u32>, Vec<u32>);
 
 /// An answer with all that a call of the archive writes.
 #[derive(Debug, PartialEq)]
@@ -36,15 +36,15 @@ impl fmt::Display for Question {
 }
 
 impl Question {
-    fn lists(&self) -> Lists {
-        (lend::schedule(&self.moves), lend::requests(&self.asks))
+    /// The numbers of the records.
+    fn numbers(&self) -> Numbers {
+        let (schedule, requests) = (lend::schedule(&self.moves), lend::requests(&self.asks));
+        let (entries, requests) = (Entry::numbers(&schedule), Request::numbers(&requests));
+        (entries.to_vec(), requests.to_vec())
     }
 
-    /// The lists in either of their forms.
-    fn either_lists(&self, draw: &mut Draw) -> Lists {
-        if draw.chance(50) {
-            return self.lists();
-        }
+    /// Other numbers with the same meaning.
+    fn odd_numbers(&self, draw: &mut Draw) -> Numbers {
         let schedule = lend::odd_schedule(draw, &self.moves);
         (schedule, lend::odd_requests(draw, &self.asks))
     }
@@ -86,8 +86,8 @@ impl Question {
 }
 
 /// Calls the archive itself, with out-parameters that hold anything before.
-fn raw_price(board: Board, tables: RivalTables, lists: &Lists) -> Told {
-    let (entries, numbers) = (lists.0.numbers(), lists.1.numbers());
+fn raw_price(board: Board, tables: RivalTables, numbers: &Numbers) -> Told {
+    let (entries, requests) = numbers;
     let mut told = Told {
         refusal: 0,
         place: 0x5555,
@@ -109,8 +109,8 @@ fn raw_price(board: Board, tables: RivalTables, lists: &Lists) -> Told {
             told.tables.marks.len(),
             entries.as_ptr(),
             entries.len(),
-            numbers.as_ptr(),
-            numbers.len(),
+            requests.as_ptr(),
+            requests.len(),
             &mut told.place,
             &mut told.cost,
         )
@@ -119,11 +119,13 @@ fn raw_price(board: Board, tables: RivalTables, lists: &Lists) -> Told {
 }
 
 /// What the safe function says, in the same words.
-fn safe_price(board: Board, mut tables: RivalTables, lists: &Lists) -> Told {
-    let answer = cuzkelor::price(lend::setup(board), &mut tables, &lists.0, &lists.1);
-    let (refusal, place, cost) = match answer {
-        PriceAnswer::Accepted { cost } => (0, 0, cost),
-        PriceAnswer::Refused { refusal, place } => (refusal.number(), place, 0),
+fn safe_price(question: &Question, mut tables: RivalTables) -> Told {
+    let setup = lend::setup(question.board);
+    let (schedule, requests) = (&question.moves, &question.asks);
+    let (schedule, requests) = (lend::schedule(schedule), lend::requests(requests));
+    let (refusal, place, cost) = match cuzkelor::price(setup, &mut tables, &schedule, &requests) {
+        Ok(cost) => (0, 0, cost),
+        Err(error) => (error.refusal.number(), error.place, 0),
     };
     Told {
         refusal,
@@ -133,15 +135,39 @@ fn safe_price(board: Board, mut tables: RivalTables, lists: &Lists) -> Told {
     }
 }
 
-/// Asks both functions and compares; the common refusal.
-fn compared(question: &Question, tables: RivalTables, lists: &Lists) -> u32 {
+/// Asks both functions, the archive in these numbers, and compares; the common refusal.
+fn compared(question: &Question, tables: RivalTables, numbers: &Numbers) -> u32 {
     let expected = question.expected(&tables);
-    let board = question.board;
-    let told = raw_price(board, tables.clone(), lists);
+    let told = raw_price(question.board, tables.clone(), numbers);
     assert_eq!(told, expected, "the archive, to {question}");
-    let told = safe_price(board, tables, lists);
+    let told = safe_price(question, tables);
     assert_eq!(told, expected, "the safe function, to {question}");
     expected.refusal
+}
+
+/// Asks the archive in numbers that are no whole list of entries or of requests, and gives its
+/// refusal: nothing changes.
+fn refused_cut(draw: &mut Draw, board: Board, tables: RivalTables, numbers: &Numbers) -> u32 {
+    let (mut entries, mut requests) = numbers.clone();
+    let which = draw.below(3);
+    if which != 1 {
+        lend::cut_record(draw, &mut entries, 3);
+    }
+    if which != 0 {
+        lend::cut_record(draw, &mut requests, 4);
+    }
+    let told = raw_price(board, tables.clone(), &(entries, requests));
+    let expected = Told {
+        refusal: if board.in_range() { 2 } else { 1 },
+        place: 0,
+        cost: 0,
+        tables,
+    };
+    assert_eq!(
+        told, expected,
+        "numbers that are no whole list on {board:?}"
+    );
+    told.refusal
 }
 
 fn any_entry(draw: &mut Draw, board: Board) -> Move {
@@ -222,15 +248,19 @@ fn random_schedules() {
         if draw.chance(3) {
             question.board = draw.board_out_of_range(question.board);
         }
-        let lists = question.either_lists(&mut draw);
-        tally.count(compared(&question, tables, &lists));
+        let numbers = question.odd_numbers(&mut draw);
+        tally.count(match draw.chance(3) {
+            true => refused_cut(&mut draw, question.board, tables, &numbers),
+            false => compared(&question, tables, &numbers),
+        });
     }
     too_many(&mut draw, &mut tally);
     let can_occur = [0, 1, 2, 3, 4, 5, 8, 9, 23, 24, 25, 26, 27, 28];
     tally.close("random schedules", &can_occur);
 }
 
-/// Lists over the pricer's limits: 1 and 2 come before 5, and 5 before anything in the lists.
+/// Lists over the pricer's limits: 1 and 2, also for numbers that are no whole list, come before 5,
+/// and 5 before anything in the lists.
 fn too_many(draw: &mut Draw, tally: &mut Tally) {
     let ask = Ask {
         processor: 9,
@@ -243,14 +273,15 @@ fn too_many(draw: &mut Draw, tally: &mut Tally) {
             moves: vec![Move::Drop(9, 999); entries],
             asks: vec![ask; requests],
         };
-        let lists = question.lists();
+        let numbers = question.numbers();
         let mut tables = lend::rival_garbage(draw, question.board);
-        let over = compared(&question, tables.clone(), &lists);
+        let over = compared(&question, tables.clone(), &numbers);
+        let cut = refused_cut(draw, question.board, tables.clone(), &numbers);
         disturb_lengths(draw, &mut tables);
-        let wrong_lengths = compared(&question, tables.clone(), &lists);
+        let wrong_lengths = compared(&question, tables.clone(), &numbers);
         question.board = draw.board_out_of_range(question.board);
-        let out_of_range = compared(&question, tables, &lists);
-        assert_eq!([over, wrong_lengths, out_of_range], [5, 2, 1]);
+        let out_of_range = compared(&question, tables, &numbers);
+        assert_eq!([over, cut, wrong_lengths, out_of_range], [5, 2, 2, 1]);
         tally.count(over);
     }
 }
@@ -323,6 +354,6 @@ fn conditions_in_order() {
         let (refusal, place) = answer.err().unwrap_or((0, 0));
         assert_eq!((told.refusal, told.place), (refusal, place), "{question}");
         assert_eq!(told.cost, answer.unwrap_or(0), "{question}");
-        compared(&question, tables, &question.lists());
+        compared(&question, tables, &question.numbers());
     }
 }

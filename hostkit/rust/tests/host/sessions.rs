@@ -1,8 +1,8 @@
 //! The document's own cases, S1 to S12 and the printed trace, with nothing but the safe functions.
 
 use cuzkelor::{
-    count_trace, look, run, start, Account, Block, Refusal, Report, Request, Requests, RunAnswer,
-    Setup, Tables, Variable, TRACE_SETUP,
+    count_trace, look, run, start, Account, Block, Refusal, Request, RunError, Setup, Tables,
+    Variable, TRACE_SETUP,
 };
 
 /// Tables and account of one host.
@@ -25,7 +25,7 @@ impl Host {
     fn one(&mut self, request: Request) -> (u32, [u32; 3]) {
         let before = self.account;
         let (answer, value) = self.try_one(request);
-        assert_eq!(answer, taken(1));
+        assert_eq!(answer, Ok(()));
         assert_eq!(self.account.requests, before.requests + 1);
         let cycles = [
             self.account.fetch - before.fetch,
@@ -35,14 +35,13 @@ impl Host {
         (value, cycles)
     }
 
-    fn try_one(&mut self, request: Request) -> (RunAnswer, u32) {
+    fn try_one(&mut self, request: Request) -> (Result<(), RunError>, u32) {
         let mut values = [0xdead];
-        let requests = Requests::from(&[request][..]);
         let answer = run(
             self.setup,
             &mut self.tables,
             &mut self.account,
-            &requests,
+            &[request],
             &mut values,
         );
         (answer, values[0])
@@ -67,20 +66,10 @@ impl Host {
     }
 }
 
-fn taken(count: usize) -> RunAnswer {
-    RunAnswer {
-        taken: count,
-        refusal: None,
-        place: 0,
-    }
-}
-
-fn refused(refusal: Refusal) -> RunAnswer {
-    RunAnswer {
-        taken: 0,
-        refusal: Some(refusal),
-        place: 0,
-    }
+/// The first request was refused by this.
+fn refused(answer: Result<(), RunError>, refusal: Refusal) {
+    let error = answer.expect_err("a refusal");
+    assert_eq!((error.refusal, error.taken, error.place), (refusal, 0, 0));
 }
 
 fn after_s1() -> Host {
@@ -202,15 +191,14 @@ fn s10_one_word_two_holders() {
 fn s11_the_empty_list() {
     let mut host = after_s3();
     let (tables, account) = (host.tables.clone(), host.account);
-    let none = Requests::default();
     let answer = run(
         host.setup,
         &mut host.tables,
         &mut host.account,
-        &none,
+        &[],
         &mut [],
     );
-    assert_eq!(answer, taken(0));
+    assert_eq!(answer, Ok(()));
     assert_eq!((host.tables, host.account), (tables, account));
 }
 
@@ -227,7 +215,8 @@ fn s12_the_last_request_of_an_account() {
     assert_eq!(host.account.requests, 1_000_000);
     let (tables, account) = (host.tables.clone(), host.account);
     let (answer, value) = host.try_one(Request::read(0, Variable(0)));
-    assert_eq!((answer, value), (refused(Refusal::AccountFull), 0xdead));
+    refused(answer, Refusal::AccountFull);
+    assert_eq!(value, 0xdead);
     assert_eq!((host.tables, host.account), (tables, account));
 }
 
@@ -236,7 +225,7 @@ fn the_last_variable() {
     let mut host = Host::fresh(TRACE_SETUP);
     assert_eq!(host.read(0, 255), (0, [4, 0, 0]));
     let (answer, _) = host.try_one(Request::read(0, Variable(256)));
-    assert_eq!(answer, refused(Refusal::NoSuchVariable));
+    refused(answer, Refusal::NoSuchVariable);
 }
 
 #[test]
@@ -254,17 +243,13 @@ fn the_last_processor() {
 #[test]
 fn the_printed_trace() {
     let trace = b"0 00000000\n0 01000000\n1 00000000\n1 4\n";
-    let report = count_trace(trace, &mut Tables::sized(TRACE_SETUP));
-    let printed = Report {
-        account: Account {
-            requests: 4,
-            fetch: 8,
-            write_back: 0,
-            update: 2,
-        },
-        refusal: None,
-        line: 0,
+    let account = count_trace(trace, &mut Tables::sized(TRACE_SETUP));
+    let printed = Account {
+        requests: 4,
+        fetch: 8,
+        write_back: 0,
+        update: 2,
     };
-    assert_eq!(report, printed);
-    assert_eq!(report.account.total(), 10);
+    assert_eq!(account, Ok(printed));
+    assert_eq!(printed.total(), 10);
 }

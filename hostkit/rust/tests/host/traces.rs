@@ -4,13 +4,20 @@ use crate::draw::Draw;
 use crate::lend;
 use crate::model::{count, shown, Counted};
 use crate::tally::Tally;
-use cuzkelor::{count_trace, Refusal, Report, TRACE_SETUP};
+use cuzkelor::{count_trace, Account, Tables, TRACE_SETUP};
+
+/// The account, the refusal or 0, and its line or 0.
+fn told(bytes: &[u8], tables: &mut Tables) -> (Account, u32, u32) {
+    match count_trace(bytes, tables) {
+        Ok(account) => (account, 0, 0),
+        Err(error) => (error.account, error.refusal.number(), error.line),
+    }
+}
 
 /// Counts a trace through the archive, on tables that hold anything, and compares.
 fn compared(draw: &mut Draw, bytes: &[u8], counted: &Counted) -> u32 {
     let mut tables = lend::garbage(draw, counted.caches.board);
-    let report = count_trace(bytes, &mut tables);
-    let told = (report.account, lend::number(report.refusal), report.line);
+    let told = told(bytes, &mut tables);
     let account = lend::account(counted.account);
     let end = String::from_utf8_lossy(&bytes[bytes.len().saturating_sub(400)..]);
     let expected = (account, counted.refusal, counted.line);
@@ -185,14 +192,9 @@ fn wrong_lengths() {
         let mut tables = lend::garbage(&mut draw, board);
         lend::wrong_length(&mut draw, &mut tables);
         let before = tables.clone();
-        let report = count_trace(&trace(&mut draw), &mut tables);
-        let refused = Report {
-            account: Default::default(),
-            refusal: Some(Refusal::WrongLength),
-            line: 0,
-        };
-        assert_eq!((report, tables), (refused, before));
-        tally.count(lend::number(report.refusal));
+        let told = told(&trace(&mut draw), &mut tables);
+        assert_eq!((told, tables), ((Account::default(), 2, 0), before));
+        tally.count(told.1);
     }
     tally.close("traces on wrong lengths", &[2]);
 }

@@ -1,0 +1,121 @@
+use crate::archive::call;
+use crate::{Account, Block, Refusal, Request, RunError, Setup, Tables};
+
+/// Fills all tables with 0.
+///
+/// # Errors
+///
+/// [`SetupOutOfRange`](Refusal::SetupOutOfRange), or [`WrongLength`](Refusal::WrongLength) of a table;
+/// then no table changes.
+///
+/// # Panics
+///
+/// If the archive is of another version.
+pub fn start(setup: Setup, tables: &mut Tables) -> Result<(), Refusal> {
+    let Tables {
+        blocks,
+        counters,
+        marks,
+        words,
+        memory,
+    } = tables;
+    // SAFETY: five buffers that are apart from each other, each with its length.
+    let number = unsafe {
+        call!(cuzkelor_start, setup, as_mut_ptr of [blocks, counters, marks, words, memory])
+    };
+    Refusal::check(number)
+}
+
+/// The words of a block in a processor's cache: a part of `tables.words`, empty where the block is
+/// not held there, where there is no such processor or block, and where the setup or the length of
+/// block numbers, counters or words is refused.
+///
+/// # Panics
+///
+/// If the archive is of another version.
+#[must_use]
+pub fn look(setup: Setup, tables: &Tables, processor: u32, block: Block) -> &[u32] {
+    let Tables {
+        blocks,
+        counters,
+        words,
+        ..
+    } = tables;
+    // SAFETY: three shared buffers, each with its length; neither call writes.
+    let (offset, length) = unsafe {
+        (
+            call!(cuzkelor_look_offset, setup, as_ptr of [blocks, counters, words], processor, block.0),
+            call!(cuzkelor_look_length, setup, as_ptr of [blocks, counters, words], processor, block.0),
+        )
+    };
+    &words[offset..offset + length]
+}
+
+/// Serves the requests in turn, to the first refused one, and adds to the account. `values` has one
+/// word for each request, which gets the value supplied or written.
+///
+/// ```
+/// use cuzkelor::{run, Account, Request, Tables, Variable, TRACE_SETUP};
+///
+/// let mut tables = Tables::started(TRACE_SETUP)?;
+/// let mut account = Account::default();
+/// let requests = [Request::write(0, Variable(3), 7), Request::read(1, Variable(3))];
+/// let mut values = [0; 2];
+/// run(TRACE_SETUP, &mut tables, &mut account, &requests, &mut values)?;
+/// assert_eq!(values, [7, 7]);
+/// assert_eq!(account.total(), 8);
+/// # Ok::<(), Box<dyn std::error::Error>>(())
+/// ```
+///
+/// # Errors
+///
+/// In this order [`SetupOutOfRange`](Refusal::SetupOutOfRange), [`WrongLength`](Refusal::WrongLength)
+/// of a table or of the values, [`UnsoundTables`](Refusal::UnsoundTables),
+/// [`ImpossibleAccount`](Refusal::ImpossibleAccount): then nothing changes. For each request
+/// [`NoSuchProcessor`](Refusal::NoSuchProcessor), [`NoSuchVariable`](Refusal::NoSuchVariable),
+/// [`AccountFull`](Refusal::AccountFull): then everything is as the requests before it left it.
+///
+/// # Panics
+///
+/// If the archive is of another version.
+pub fn run(
+    setup: Setup,
+    tables: &mut Tables,
+    account: &mut Account,
+    requests: &[Request],
+    values: &mut [u32],
+) -> Result<(), RunError> {
+    let Tables {
+        blocks,
+        counters,
+        marks,
+        words,
+        memory,
+    } = tables;
+    let numbers = Request::numbers(requests);
+    let (mut taken, mut place) = (0, 0);
+    // SAFETY: the tables, the account, the values and the two out-parameters are apart from each
+    // other and from the list, as mutable borrows are, and each buffer goes with its length.
+    let number = unsafe {
+        call!(
+            cuzkelor_run,
+            setup,
+            as_mut_ptr of [blocks, counters, marks, words, memory],
+            &mut account.requests,
+            &mut account.fetch,
+            &mut account.write_back,
+            &mut account.update,
+            numbers.as_ptr(),
+            numbers.len(),
+            values.as_mut_ptr(),
+            values.len(),
+            &mut taken,
+            &mut place,
+        )
+    };
+    Refusal::check(number).map_err(|refusal| RunError {
+        refusal,
+        taken,
+        place,
+    })
+}

@@ -1,0 +1,180 @@
+//! The refusals' numbers and words, the errors' texts, the version, and lists read back.
+
+use cuzkelor::{
+    count_trace, price, raw, run, Account, Action, Block, Board, Entry, Operation, Refusal,
+    Request, RivalTables, Setup, Tables, Variable, TRACE_SETUP,
+};
+use std::error::Error;
+
+/// The numbers of the document, and those that refuse the call as a whole.
+const NUMBERS: [u32; 18] = [
+    1, 2, 3, 4, 5, 6, 7, 8, 9, 20, 21, 22, 23, 24, 25, 26, 27, 28,
+];
+const OF_CALLS: [u32; 5] = [1, 2, 5, 20, 21];
+
+fn text(error: impl Error + Send + Sync + 'static) -> String {
+    Box::<dyn Error + Send + Sync>::from(error).to_string()
+}
+
+#[test]
+fn refusal_numbers() {
+    let numbers: Vec<u32> = Refusal::ALL.iter().map(|one| one.number()).collect();
+    assert_eq!(numbers, NUMBERS);
+    for number in 0..100 {
+        let refusal = Refusal::from_number(number);
+        assert_eq!(refusal.is_some(), NUMBERS.contains(&number));
+        assert_eq!(refusal.map_or(number, Refusal::number), number);
+    }
+}
+
+#[test]
+fn refusals_of_calls() {
+    for refusal in Refusal::ALL {
+        let of_call = OF_CALLS.contains(&refusal.number());
+        assert_eq!(refusal.refuses_call(), of_call, "{refusal}");
+    }
+}
+
+#[test]
+fn refusals_in_words() {
+    assert_eq!(
+        text(Refusal::SetupOutOfRange),
+        "refused by 1: a setup number is out of range"
+    );
+    let mut texts: Vec<&str> = Refusal::ALL.iter().map(|one| one.text()).collect();
+    texts.sort_unstable();
+    texts.dedup();
+    assert_eq!(texts.len(), NUMBERS.len(), "each has its own words");
+    assert!(texts.iter().all(|text| !text.is_empty()));
+}
+
+#[test]
+fn run_errors() {
+    let mut board = Board::new(TRACE_SETUP).expect("in range");
+    let requests = [0, 255, 256].map(|variable| Request::read(0, Variable(variable)));
+    let error = board.run(&requests).expect_err("no such variable");
+    assert_eq!((error.taken, error.place), (2, 2));
+    assert_eq!(text(error), "refused by 4 at place 2: no such variable");
+    let mut tables = Tables::sized(TRACE_SETUP);
+    tables.marks[0] = 1;
+    let mut account = Account::default();
+    let error = run(TRACE_SETUP, &mut tables, &mut account, &[], &mut []).expect_err("unsound");
+    assert_eq!(text(error), "refused by 20: the tables are not sound");
+}
+
+#[test]
+fn price_errors() {
+    let mut tables = RivalTables::sized(TRACE_SETUP);
+    let mut refused = |schedule: &[Entry], requests: &[Request]| {
+        text(price(TRACE_SETUP, &mut tables, schedule, requests).expect_err("refused"))
+    };
+    let read = Request::read(0, Variable(0));
+    assert_eq!(
+        refused(&[Entry::fetch(0, Block(3)), Entry::drop(0, Block(11))], &[]),
+        "refused by 24 at place 1: a drop or a write-back of a block that is not held"
+    );
+    assert_eq!(
+        refused(&[Entry::fetch(0, Block(3))], &[read]),
+        "refused by 28 at place 1: the schedule ends with requests left"
+    );
+    assert_eq!(
+        refused(&[], &vec![read; 1_000_001]),
+        "refused by 5: over 1,000,000 requests or 4,000,000 entries to the pricer"
+    );
+}
+
+#[test]
+fn trace_errors() {
+    let mut tables = Tables::sized(TRACE_SETUP);
+    let error = count_trace(b"0 0\n1 0\nx\n", &mut tables).expect_err("malformed");
+    assert_eq!((error.account.requests, error.account.total()), (2, 4));
+    assert_eq!(text(error), "refused by 6 at line 3: malformed trace line");
+    tables.memory.pop();
+    let error = count_trace(b"", &mut tables).expect_err("memory too short");
+    assert_eq!((error.account, error.line), (Account::default(), 0));
+    assert!(text(error).starts_with("refused by 2: "));
+}
+
+#[test]
+fn version() {
+    // SAFETY: takes nothing.
+    let archive = unsafe { raw::cuzkelor_version() };
+    assert_eq!((archive, raw::CUZKELOR_VERSION), (1, 1));
+}
+
+#[test]
+fn lists_read_back() {
+    let requests = [
+        Request::read(1, Variable(2)),
+        Request::write(3, Variable(4), 5),
+    ];
+    assert_eq!(requests[0].operation(), Operation::Read(Variable(2)));
+    assert_eq!(requests[1].operation(), Operation::Write(Variable(4), 5));
+    let who: Vec<u32> = requests.iter().map(|request| request.processor()).collect();
+    assert_eq!(who, [1, 3]);
+    assert_eq!(Request::numbers(&requests), [1, 0, 2, 0, 3, 1, 4, 5]);
+    let actions = [
+        Action::Fetch(1, Block(2)),
+        Action::WriteBack(3, Block(4)),
+        Action::Drop(5, Block(6)),
+        Action::Complete,
+        Action::CompleteByBroadcast,
+    ];
+    let entries = [
+        Entry::fetch(1, Block(2)),
+        Entry::write_back(3, Block(4)),
+        Entry::drop(5, Block(6)),
+        Entry::COMPLETE,
+        Entry::COMPLETE_BY_BROADCAST,
+    ];
+    assert_eq!(entries.map(Entry::action), actions);
+    let numbers = [0, 1, 2, 1, 3, 4, 2, 5, 6, 3, 0, 0, 4, 0, 0];
+    assert_eq!(Entry::numbers(&entries), numbers);
+}
+
+#[test]
+fn records_as_text() {
+    let request = Request::write(3, Variable(4), 5);
+    assert_eq!(
+        format!("{request:?} {:?}", Entry::COMPLETE),
+        "Request { processor: 3, operation: Write(Variable(4), 5) } Entry(Complete)"
+    );
+}
+
+#[test]
+fn lengths_of_a_setup() {
+    let lengths = |setup: Setup| {
+        [
+            setup.slot_count(),
+            setup.word_count(),
+            setup.variable_count(),
+        ]
+    };
+    assert_eq!(lengths(TRACE_SETUP), [32, 128, 256]);
+    let out_of_range = Setup {
+        processors: u32::MAX,
+        lines: u32::MAX,
+        block_words: u32::MAX,
+        block_count: u32::MAX,
+    };
+    assert_eq!(lengths(out_of_range), [0; 3]);
+}
+
+/// The header's ranges are those of the archive.
+#[test]
+fn ranges_of_a_setup() {
+    for number in [0, 1, 2, 8, 9, 16, 17, 64, 65, 256, 257, u32::MAX] {
+        for field in 0..4 {
+            let mut numbers = [1; 4];
+            numbers[field] = number;
+            let [processors, lines, block_words, block_count] = numbers;
+            let setup = Setup {
+                processors,
+                lines,
+                block_words,
+                block_count,
+            };
+            assert_eq!(Board::new(setup).is_ok(), setup.in_range(), "{setup:?}");
+        }
+    }
+}
