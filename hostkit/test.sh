@@ -29,6 +29,12 @@ $command "${strict[@]}"
 target/example | diff - hostkit/c/example.stdout
 echo 'example: as expected'
 
+# README's example, as it stands there.
+awk '/^    #include "cuzkelor.h"/ { on = 1 } on && /^$/ { exit } on { print substr($0, 5) }' README.md > "$out/board.c"
+gcc -std=c99 "${strict[@]}" -I hostkit -o "$out/board" "$out/board.c" "$archive"
+[ "$("$out/board")" = 'no refusal: read 7, fetch 8' ]
+echo "README's example: as expected"
+
 cd hostkit/rust
 cargo test --release --offline --locked -- --nocapture
 echo 'host kit: all passed'
