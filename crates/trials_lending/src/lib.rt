@@ -1,0 +1,67 @@
+// The entries that are lent records, called as a host in the language calls them: the records stand in local arrays, and the
+// account in a local, which are lent for the call.
+use host_numbers::Ran;
+use protocol_types::Account;
+use protocol_types::Entry;
+use protocol_types::PriceAnswer;
+use protocol_types::Request;
+use protocol_types::Setup;
+ghost use mathlib.Core.Path.{_≡_};
+ghost use Rattle.protocol.specs.Lent.{before, after};
+ghost use Rattle.protocol.specs.Engines.{run as ran};
+ghost use Rattle.protocol.specs.Runs.{engine};
+ghost use Rattle.protocol.specs.Pricer.{price as priced, priceTables};
+ghost use Rattle.rival_copies.specs.Copies.{rivalBefore, rivalAfter};
+ghost use Rattle.run_progress.specs.Progress.{outcome};
+
+// How many requests a list has, and how many entries a schedule.
+pub const REQUESTS: usize = 8;
+
+pub const ENTRIES: usize = 20;
+
+// A run of the requests in an array, by the entry `run`.
+pub fn run_array(
+    setup: Setup,
+    blocks: &mut [u32],
+    counters: &mut [u32],
+    marks: &mut [u32],
+    words: &mut [u32],
+    memory: &mut [u32],
+    mut account: Account,
+    requests: [Request; REQUESTS],
+    values: &mut [u32],
+) -> Ran
+    ensures { λ r. ⌜ outcome (r .answer) (after blocks counters marks words memory) (r .account) (now (values .exit))
+        ≡ ran (engine setup) (before blocks counters marks words memory) account requests (now (values .entry)) ⌝ }
+{
+    let answer = run::run(
+        setup,
+        blocks,
+        counters,
+        marks,
+        words,
+        memory,
+        &mut account,
+        &requests,
+        values,
+    );
+    Ran {
+        answer: answer,
+        account: account,
+    }
+}
+
+// The price of the schedule in an array for the requests in another, by the entry `price`.
+pub fn price_arrays(
+    setup: Setup,
+    blocks: &mut [u32],
+    held: &mut [u32],
+    marks: &mut [u32],
+    entries: [Entry; ENTRIES],
+    requests: [Request; REQUESTS],
+) -> PriceAnswer
+    ensures { λ r. ⌜ (r ≡ priced setup (rivalBefore blocks held marks) requests entries)
+        × (rivalAfter blocks held marks ≡ priceTables setup (rivalBefore blocks held marks) requests entries) ⌝ }
+{
+    rival_pricer::price(setup, blocks, held, marks, &entries, &requests)
+}
