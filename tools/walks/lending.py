@@ -279,7 +279,7 @@ class Lending:
         b += '\n' + J + 'at-once ! $ show ! (λ (z : End). guard 𝓤 (Told w z) (mean 𝓤 H A (Left z ⊛ Cells-after z))) %s $ check ! (record { %s }) $ ' % (z, told)
         b += cx.keep(*(['tok·' + n for n in self.slices] + ['fin·' + n for n in self.slices] + ['c·' + n for n in self.locals]))
         b += 'group ! %d $ done !' % (2 * len(self.slices)) + ')' * par
-        return t + I + 'after %s k w =\n' % ' '.join(n + '-count' for n in self.arrays) + I + '  qed W (raw (Called .post (to k) w) ∷ Out k ∷ []) ∵ ' + b + '\n'
+        return t + I + 'after %s k w =\n' % ' '.join(n + '-count' for n in self.arrays) + I + '    qed W (raw (Called .post (to k) w) ∷ Out k ∷ []) ∵ ' + b + '\n'
 
     # ---- the walk
     def text(self):

@@ -1,0 +1,162 @@
+// The lists: one session that is written down, with a legal schedule for its requests, and lists that are drawn.
+use crate::board;
+use protocol_types::Block;
+use protocol_types::Entry;
+use protocol_types::Operation;
+use protocol_types::Request;
+use protocol_types::Variable;
+use trials_cells::cells::Cells;
+use trials_cells::state::draw;
+use trials_lending::ENTRIES;
+use trials_lending::REQUESTS;
+
+fn read(processor: u32, variable: u32) -> Request {
+    Request {
+        processor: processor,
+        operation: Operation::Read(Variable(variable)),
+    }
+}
+
+fn write(processor: u32, variable: u32, value: u32) -> Request {
+    Request {
+        processor: processor,
+        operation: Operation::Write(Variable(variable), value),
+    }
+}
+
+// Two misses; two writes by broadcast, the second of which empties the payer's line; a write alone; a hit; a miss that
+// writes a marked block back; a read of what was written back.
+pub(crate) fn session() -> [Request; REQUESTS] {
+    [
+        read(0, 0),
+        read(1, 1),
+        write(0, 0, 11),
+        write(0, 1, 12),
+        write(0, 0, 13),
+        read(0, 1),
+        read(0, 4),
+        read(1, 0),
+    ]
+}
+
+// After it: a miss and a write; a fetch of a marked block; a write by broadcast; a hit; a write alone; a request that is
+// refused, and two that are not reached.
+pub(crate) fn session_after() -> [Request; REQUESTS] {
+    [
+        write(2, 9, 21),
+        read(1, 8),
+        write(1, 8, 22),
+        read(2, 8),
+        write(0, 4, 23),
+        write(3, 0, 24),
+        read(0, 0),
+        read(1, 1),
+    ]
+}
+
+fn fetch(processor: u32, block: u32) -> Entry {
+    Entry::Fetch(processor, Block(block))
+}
+
+fn write_back(processor: u32, block: u32) -> Entry {
+    Entry::WriteBack(processor, Block(block))
+}
+
+fn drop_of(processor: u32, block: u32) -> Entry {
+    Entry::Drop(processor, Block(block))
+}
+
+// A legal schedule for the session, with moves after its last completion.
+pub(crate) fn schedule() -> [Entry; ENTRIES] {
+    [
+        fetch(0, 0),
+        Entry::Complete,
+        fetch(1, 0),
+        Entry::Complete,
+        Entry::CompleteByBroadcast,
+        drop_of(1, 0),
+        Entry::Complete,
+        Entry::Complete,
+        Entry::Complete,
+        write_back(0, 0),
+        drop_of(0, 0),
+        fetch(0, 2),
+        Entry::Complete,
+        fetch(1, 0),
+        Entry::Complete,
+        fetch(2, 3),
+        write_back(2, 3),
+        drop_of(2, 3),
+        drop_of(1, 0),
+        fetch(1, 4),
+    ]
+}
+
+// A number below n, or once in 64 times n.
+fn mostly_below(cells: &mut Cells, n: u32) -> u32 {
+    let roll = draw(cells, 64);
+    let x = draw(cells, n);
+    if roll == 0 {
+        return n;
+    }
+    x
+}
+
+pub(crate) fn any_request(cells: &mut Cells) -> Request {
+    let i = mostly_below(cells, board::PROCESSORS);
+    let v = mostly_below(cells, board::VARIABLES);
+    let x = draw(cells, 1000);
+    let reads = draw(cells, 2);
+    if reads == 1 {
+        return read(i, v);
+    }
+    write(i, v, x)
+}
+
+pub(crate) fn any_entry(cells: &mut Cells) -> Entry {
+    let i = mostly_below(cells, board::PROCESSORS);
+    let b = mostly_below(cells, board::BLOCKS);
+    let kind = draw(cells, 5);
+    match kind {
+        0 => fetch(i, b),
+        1 => write_back(i, b),
+        2 => drop_of(i, b),
+        3 => Entry::Complete,
+        _ => Entry::CompleteByBroadcast,
+    }
+}
+
+pub(crate) fn any_requests(cells: &mut Cells) -> [Request; REQUESTS] {
+    [
+        any_request(cells),
+        any_request(cells),
+        any_request(cells),
+        any_request(cells),
+        any_request(cells),
+        any_request(cells),
+        any_request(cells),
+        any_request(cells),
+    ]
+}
+
+// The session with one request replaced.
+pub(crate) fn varied_session(cells: &mut Cells) -> [Request; REQUESTS] {
+    let mut list = session();
+    let request = any_request(cells);
+    let k = draw(cells, 8) as usize;
+    if k < REQUESTS {
+        list[k] = request;
+    }
+    list
+}
+
+// The schedule with one entry replaced.
+pub(crate) fn varied_schedule(cells: &mut Cells) -> [Entry; ENTRIES] {
+    let mut list = schedule();
+    let entry = any_entry(cells);
+    let k = draw(cells, 20) as usize;
+    if k < ENTRIES {
+        list[k] = entry;
+    }
+    list
+}

@@ -1,0 +1,144 @@
+// A run over records and the same run over numbers.
+use crate::board;
+use crate::board::Tables;
+use crate::numbers;
+use crate::sides;
+use host_numbers::Ran;
+use protocol_types::Account;
+use protocol_types::Request;
+use trials_cells::cells::Cells;
+use trials_cells::cells::less;
+use trials_cells::cells::sum;
+use trials_cells::state;
+use trials_lending::REQUESTS;
+
+// The tables that a list of runs goes on over, and the account.
+pub struct Series {
+    pub tables: Tables,
+    pub account: Account,
+}
+
+// What a run answered, and the tables that it left.
+pub struct Done {
+    pub ran: Ran,
+    pub tables: Tables,
+}
+
+fn by_records(at: Series, requests: [Request; REQUESTS]) -> Done {
+    let tables = at.tables;
+    let account = at.account;
+    let mut blocks = tables.blocks;
+    let mut counters = tables.counters;
+    let mut marks = tables.marks;
+    let mut words = tables.words;
+    let mut memory = tables.memory;
+    let mut values = tables.values;
+    let ran = trials_lending::run_array(
+        board::setup(),
+        &mut blocks,
+        &mut counters,
+        &mut marks,
+        &mut words,
+        &mut memory,
+        account,
+        requests,
+        &mut values,
+    );
+    let left = Tables {
+        blocks: blocks,
+        counters: counters,
+        marks: marks,
+        words: words,
+        memory: memory,
+        values: values,
+    };
+    Done {
+        ran: ran,
+        tables: left,
+    }
+}
+
+fn by_numbers(at: Series, requests: [Request; REQUESTS]) -> Done {
+    let list = numbers::of_requests(requests);
+    let tables = at.tables;
+    let account = at.account;
+    let mut blocks = tables.blocks;
+    let mut counters = tables.counters;
+    let mut marks = tables.marks;
+    let mut words = tables.words;
+    let mut memory = tables.memory;
+    let mut values = tables.values;
+    let ran = host_numbers::run(
+        board::setup(),
+        &mut blocks,
+        &mut counters,
+        &mut marks,
+        &mut words,
+        &mut memory,
+        account,
+        &list,
+        &mut values,
+    );
+    let left = Tables {
+        blocks: blocks,
+        counters: counters,
+        marks: marks,
+        words: words,
+        memory: memory,
+        values: values,
+    };
+    Done {
+        ran: ran,
+        tables: left,
+    }
+}
+
+fn lay_done(cells: &mut Cells, side: u32, done: Done) {
+    let ran = done.ran;
+    let answer = ran.answer;
+    let account = ran.account;
+    let tables = done.tables;
+    sides::lay_answer(cells, side, answer.refusal, answer.place, answer.taken, 0);
+    sides::lay_account(cells, side, account);
+    sides::lay_tables(cells, side, tables);
+}
+
+fn cycles(account: Account) -> u32 {
+    sum(sum(account.fetch, account.write_back), account.update)
+}
+
+// What a run came to is noted.
+fn note(cells: &mut Cells, case: u32, refusal: u32, before: Account, after: Account) {
+    let what = sides::difference(cells);
+    state::record(cells, state::RUN, case, refusal, what);
+    state::add(
+        cells,
+        state::REQUESTS,
+        less(after.requests, before.requests),
+    );
+    state::add(cells, state::CYCLES, less(cycles(after), cycles(before)));
+}
+
+// Both runs: what the one over records leaves.
+pub(crate) fn run_both(
+    cells: &mut Cells,
+    case: u32,
+    at: Series,
+    requests: [Request; REQUESTS],
+) -> Series {
+    let before = at.account;
+    let done = by_records(at, requests);
+    let other = by_numbers(at, requests);
+    sides::clear(cells);
+    lay_done(cells, sides::RECORDS, done);
+    lay_done(cells, sides::NUMBERS, other);
+    let ran = done.ran;
+    let answer = ran.answer;
+    let account = ran.account;
+    note(cells, case, answer.refusal, before, account);
+    let tables = done.tables;
+    Series {
+        tables: tables,
+        account: account,
+    }
+}
