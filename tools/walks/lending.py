@@ -11,6 +11,18 @@ What is returned is what the callee returns, or a struct of that and of the stru
 """
 from parts import *
 from mir import function, items, place, callee
+from call import Callee
+
+
+class Entry:
+    """The callee, of another crate, as a caller of the crate `here` names it. mod: the file of the call."""
+
+    def __init__(self, here, crate, name, mod):
+        self.here, self.crate, self.name, self.mod = here, crate, name, mod
+        self.F = dashed(name)
+        self.key, self.calls = '#%s·%s' % (crate, self.F), calls(crate, name)
+
+    uses = Callee.uses
 
 
 class Array:
@@ -47,17 +59,17 @@ class Array:
 
 
 class Lending:
-    """root, here, name: the repository, and the function's crate and name. kit: the crate of Frame, Opening and Lending.
-    crate, entry, mod: the callee's crate and name, and the file of its call.
+    """root, here, name: the repository, and the function's crate and name. kit: the crate of Frame, Opening and Lending. entry: the Entry.
     params: (name, Kind | Slice | Array). refs: the names of those that are lent by &mut.
-    answer: the Kind of what the callee returns. result: the Kind of what the function returns; made: None where that is the callee's answer, or the
-    struct's text, with {answer} and {NAME} for the last value of a lent struct, and the fields in order, each 'answer' or such a NAME.
+    answer: the Kind of what the callee returns. result: the Kind of what the function returns. Where that is another one: made, the struct's text, with
+    {answer} and {NAME} for the last value of a lent struct, and fields, which of these each field is.
     says: what both contracts say, with {answer}, and {NAME} for the last value of a buffer or a lent struct. cites: what it names (parts.spec_uses)."""
+
+    made = fields = None
 
     def __init__(self, **given):
         self.__dict__.update(given)
-        self.F, self.G = dashed(self.name), dashed(self.entry)
-        self.key, self.calls = '#%s·%s' % (self.crate, self.G), calls(self.crate, self.entry)
+        self.F, self.G, self.mod = dashed(self.name), self.entry.F, self.entry.mod
         self.kind = dict(self.params)
         self.slices = [n for n, k in self.params if isinstance(k, Slice)]
         self.plain = [(n, k) for n, k in self.params if not isinstance(k, Slice)]
@@ -132,10 +144,10 @@ class Lending:
     # ---- the call
     def call_text(self):
         G, I = self.G, ' ' * 4
-        t = '-- The call of `%s` by a caller that lends its own locals: each is lent for a lifetime of its own and stands again as a cell after the call. The buffers are passed on at their own lifetimes, shares and names, and what is had of them after the call is what says their last values.\n' % self.entry
+        t = '-- The call of `%s` by a caller that lends its own locals: each is lent for a lifetime of its own and stands again as a cell after the call. The buffers are passed on at their own lifetimes, shares and names, and what is had of them after the call is what says their last values.\n' % self.entry.name
         t += '--     before, after       what stands before the call and after it\n-- Assumes `Given`.\n'
         t += HEAD + kind_uses(self.here, self.kinds() + [self.answer]) + spec_uses(self.here, self.cites) + kit_uses(self.here, self.kit)
-        t += 'use %s.%s as %s\n\n' % (proofs(self.here, self.crate), self.entry, G)
+        t += 'use %s.%s as %s\n\n' % (proofs(self.here, self.entry.crate), self.entry.name, G)
         t += 'module _ {M : Type 1} (𝓤 : URA M) (H : Heap 𝓤) (A : Atoms 𝓤) (mem : Memory → SProp 𝓤) (run″ : Routine → Fun 𝓤) where\n'
         t += '  abbrev pub Called : Contract 𝓤\n  Called = tripleOf 𝓤 H A %s.signature (%s.spec 𝓤 H A mem run″)\n\n' % (G, G)
         t += '  module _ (W : Given 𝓤 H A) %s (%s : ℕ)\n      %s where\n' % (self.known(), ' '.join('l-' + n for n in self.locals), self.values())
@@ -291,12 +303,11 @@ class Lending:
         return prune(self.head() + self.opening() + self.finish() + self.walk() + self.contract())
 
     def head(self):
-        here, own, p = self.here, '%s.%s' % (proofs(self.here, self.here), self.name), '%s.%s' % (proofs(self.here, self.crate), self.entry)
-        t = '-- `%s::%s` meets its contract: a walk of its MIR, by hand. It knows of `%s` only that it meets its contract.\n' % (here, self.name, self.entry)
+        here, own = self.here, '%s.%s' % (proofs(self.here, self.here), self.name)
+        t = '-- `%s::%s` meets its contract: a walk of its MIR, by hand. It knows of `%s` only that it meets its contract.\n' % (here, self.name, self.entry.name)
         t += '-- The buffers are passed on for good. The locals are lent for the call, and freed at the end.\n-- The context is [_0; …; _%d; that the locals die; what came in]. Assumes nothing.\n' % (self.count - 1)
         t += 'mod %s\n' % self.mod + HEAD + kind_uses(here, self.kinds() + [self.answer, self.result]) + spec_uses(here, self.cites) + kit_uses(here, self.kit)
-        t += 'use %s.Proof.%s as %s\n' % (own, self.mod, self.mod)
-        t += 'use %s.Symbol as %s-def\nuse %s.Symbol.{name as %s}\nuse %s.Met as %s-thm\n' % (p, self.G, p, self.key, p, self.G)
+        t += 'use %s.Proof.%s as %s\n' % (own, self.mod, self.mod) + self.entry.uses()
         return t + 'use %s.Key.{name as #%s·%s}\nuse %s as %s\nuse %s.Statement as stated\nuse %s.Code as code\n\n' % (own, here, self.F, own, self.F, own, own)
 
     def opening(self):
@@ -414,7 +425,7 @@ class Lending:
         self.block = {n: block(self.copy[n]) for n in self.locals}
         I, R = ' ' * 8, self.result
         values = cons('(%s)' % self.pointer(n) if n in self.slices else k.val(n) for n, k in self.params)
-        t = '  module _ (𝓣 : Tables 𝓤 H) (known : Triple 𝓤 (𝓣 .C %s) (%s.Called 𝓤 H A mem run″)) where\n' % (self.key, self.mod)
+        t = '  module _ (𝓣 : Tables 𝓤 H) (known-%s : Triple 𝓤 (𝓣 .C %s) (%s.Called 𝓤 H A mem run″)) where\n' % (self.G, self.entry.key, self.mod)
         t += '    abbrev C : Calls 𝓤 H\n    C = 𝓣 .C\n\n    abbrev Λ : Loops 𝓤 H\n    Λ = 𝓣 .Λ\n\n'
         t += '    walk : ent 𝓤 (onEntry 𝓤 H A %s.signature %s %s args at) (WpFn 𝓤 H C Λ code.function %s Post)\n' % (self.F, self.κs, self.qs, values)
         t += '    walk =\n' + I + 'qed W (Toks ∷ Owns ∷ []) ∵ enter ! C Λ code.function %s _ $\n' % values
@@ -435,7 +446,7 @@ class Lending:
             if st[0] == 'assign':
                 t += I + self.assign(cx, st) + '\n'
                 continue
-            assert callee(st) == (self.crate, self.entry), st
+            assert callee(st) == (self.entry.crate, self.entry.name), st
             # the locals that are lent, as cells
             t += I
             for n in self.locals:
@@ -447,7 +458,7 @@ class Lending:
             t += 'use2 W (later (some (λ (k : %s). raw (%s) ⊛ %s k))) (%s %s) $ await ! tt $ pick ! (λ k. split ! $\n' % (
                 self.app('Key'), pre, self.app('Out'), self.app('before'), ' '.join(n + '-is' for n, k in self.plain))
             cx.front(2, ['pre', 'out'])
-            t += I + 'calls-at ! (fmOf 𝓤 H (W .laws) 𝓣) (%s.Called 𝓤 H A mem run″) known (%s k) %s (λ w.\n' % (self.mod, self.app('to'), self.operands(cx, items(st[2])))
+            t += I + 'calls-at ! (fmOf 𝓤 H (W .laws) 𝓣) (%s.Called 𝓤 H A mem run″) known-%s (%s k) %s (λ w.\n' % (self.mod, self.G, self.app('to'), self.operands(cx, items(st[2])))
             cx.front(1, ['call'])
             t += I + cx.move('call', 'out') + 'use2 W (later (some (λ (z : %s). given (%s w z) (%s z ⊛ %s z)))) (%s %s k w) $ await ! tt $ pick ! (λ z. learn ! (λ told. split ! $ ' % (
                 self.app('End'), self.app('Told'), self.app('Left'), self.app('Cells-after'), self.app('after'), ' '.join('(%s-is .1 .0 .1)' % n for n in self.arrays))
@@ -472,25 +483,11 @@ class Lending:
 
     # ---- the contract
     def contract(self):
-        F = self.F
         number = {n: i for i, (n, k) in enumerate(self.params)}
-
-        def nth(i, base):
-            return '(%s%s .0' % (base, ' .1' * i)
-
         spells = nest('slice-vals' if n in self.slices else k.spells() for n, k in self.params)
         tells = nest('(mut-slice-tells (named %d) %s) %s)' % (self.life[n], nth(self.life[n], 'κs'), k.row) if n in self.slices else k.tells() for n, k in self.params)
         given = [nth(self.life[n], 'κs') + ')' for n in self.slices] + [nth(self.life[n], 'qs') + ')' for n in self.slices]
         given += ['%s .name)' % nth(number[n], 'a') for n in self.slices] + ['%s .ptr .%d)' % (nth(number[n], 'a'), i) for n in self.slices for i in (0, 1)]
         given += [nth(number[n], 'a') + (' .now)' if n in self.slices else ')') for n, k in self.params]
         given += [nth(number[n], 'are') + ')' for n, k in self.plain] + [nth(number[n], 'are') + ' .0 .1)' for n in self.slices]
-        t = 'module _ {M : Type 1} (𝓤 : URA M) (H : Heap 𝓤) (A : Atoms 𝓤) (W : Given 𝓤 H A) (mem : Memory → SProp 𝓤) (run″ : Routine → Fun 𝓤) (𝓣 : Tables 𝓤 H) (known : Triple 𝓤 (𝓣 .C %s) (%s.Called 𝓤 H A mem run″)) where\n' % (self.key, self.mod)
-        t += '  %s-walks : Walks 𝓤 H A %s.ended stayed (WpFn 𝓤 H (𝓣 .C) (𝓣 .Λ) code.function) (%s.clauses 𝓤 H A mem run″)\n' % (F, F, F)
-        t += '  %s-walks = walked 𝓤 H A %s.ended stayed (%s.clauses 𝓤 H A mem run″) (WpFn 𝓤 H (𝓣 .C) (𝓣 .Λ) code.function)\n      (λ κs. %s)\n      (λ κs. %s)\n' % (F, F, F, spells, tells)
-        t += '      (λ κs qs bounds a g are. via 𝓤 _ (fst∗ 𝓤 _ (emp 𝓤)) (walk 𝓤 H A W mem run″ %s 𝓣 known))\n\n' % ' '.join(given)
-        t += '  %s-meets : Meets 𝓤 H A %s.signature (WpFn 𝓤 H (𝓣 .C) (𝓣 .Λ) code.function) (%s.spec 𝓤 H A mem run″)\n  %s-meets = walk-meets 𝓤 H A %s.ended stayed W %s\n' % (F, F, F, F, F, self.goes)
-        t += '      (%s.clauses 𝓤 H A mem run″) (WpFn 𝓤 H (𝓣 .C) (𝓣 .Λ) code.function) (WpFn-mono 𝓤 H (W .laws) 𝓣 code.function) %s-walks\n\n' % (F, F)
-        t += 'pub %s-spec : {M : Type 1} → stated.statement M\nunfolding code.routine tablesOf\n%s-spec 𝓤 H 𝓜 𝓖 𝓡 =\n    entered 𝓤 H (tripleOf 𝓤 H (𝓖 .A) %s.signature (%s.spec 𝓤 H (𝓖 .A) (𝓜 .mem) (𝓡 .run)))\n' % (F, F, F, F)
-        t += '    (tables 𝓤 H 𝓜 𝓡 code.env .C) (tables 𝓤 H 𝓜 𝓡 code.env .Λ) #%s·%s code.function (code.unfolded 𝓤 H 𝓜 𝓡)\n' % (self.here, F)
-        t += '    (%s-meets 𝓤 H (𝓖 .A) (givenOf 𝓤 H 𝓜 𝓖) (𝓜 .mem) (𝓡 .run) (tablesOf 𝓤 H 𝓜 (tables 𝓤 H 𝓜 𝓡 code.env))' % F
-        return t + '\n    (cited 𝓤 H (%s.Called 𝓤 H (𝓖 .A) (𝓜 .mem) (𝓡 .run)) 𝓜 𝓡 code.env %s %s-def.routine %s (%s-thm.met 𝓤 H 𝓜 𝓖 𝓡)))\n' % (self.mod, self.key, self.G, self.calls, self.G)
+        return contract(self.here, self.F, spells, tells, given, self.goes, [self.entry])

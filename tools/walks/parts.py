@@ -249,6 +249,29 @@ def spec_uses(here, cites):
     return ''.join('use %s.%s.{%s}\n' % (specs(here, c), m, ', '.join(ns)) for c, m, ns in cites)
 
 
+def contract(here, F, spells, tells, given, goes, callees):
+    """The end of a walk's file: the walk, taken to the contract, with what is known of each callee. given: what `walk` is applied to.
+    callees: each with its F, key, mod and calls."""
+    known = ' '.join('(known-%s : Triple 𝓤 (𝓣 .C %s) (%s.Called 𝓤 H A mem run″))' % (c.F, c.key, c.mod) for c in callees)
+    t = 'module _ {M : Type 1} (𝓤 : URA M) (H : Heap 𝓤) (A : Atoms 𝓤) (W : Given 𝓤 H A) (mem : Memory → SProp 𝓤) (run″ : Routine → Fun 𝓤) (𝓣 : Tables 𝓤 H) %s where\n' % known
+    t += '  %s-walks : Walks 𝓤 H A %s.ended stayed (WpFn 𝓤 H (𝓣 .C) (𝓣 .Λ) code.function) (%s.clauses 𝓤 H A mem run″)\n' % (F, F, F)
+    t += '  %s-walks = walked 𝓤 H A %s.ended stayed (%s.clauses 𝓤 H A mem run″) (WpFn 𝓤 H (𝓣 .C) (𝓣 .Λ) code.function)\n      (λ κs. %s)\n      (λ κs. %s)\n' % (F, F, F, spells, tells)
+    t += '      (λ κs qs bounds a g are. via 𝓤 _ (fst∗ 𝓤 _ (emp 𝓤)) (walk 𝓤 H A W mem run″ %s 𝓣 %s))\n\n' % (' '.join(given), ' '.join('known-' + c.F for c in callees))
+    t += '  %s-meets : Meets 𝓤 H A %s.signature (WpFn 𝓤 H (𝓣 .C) (𝓣 .Λ) code.function) (%s.spec 𝓤 H A mem run″)\n  %s-meets = walk-meets 𝓤 H A %s.ended stayed W %s\n' % (F, F, F, F, F, goes)
+    t += '      (%s.clauses 𝓤 H A mem run″) (WpFn 𝓤 H (𝓣 .C) (𝓣 .Λ) code.function) (WpFn-mono 𝓤 H (W .laws) 𝓣 code.function) %s-walks\n\n' % (F, F)
+    t += 'pub %s-spec : {M : Type 1} → stated.statement M\nunfolding code.routine tablesOf\n%s-spec 𝓤 H 𝓜 𝓖 𝓡 =\n    entered 𝓤 H (tripleOf 𝓤 H (𝓖 .A) %s.signature (%s.spec 𝓤 H (𝓖 .A) (𝓜 .mem) (𝓡 .run)))\n' % (F, F, F, F)
+    t += '    (tables 𝓤 H 𝓜 𝓡 code.env .C) (tables 𝓤 H 𝓜 𝓡 code.env .Λ) #%s·%s code.function (code.unfolded 𝓤 H 𝓜 𝓡)\n' % (here, F)
+    t += '    (%s-meets 𝓤 H (𝓖 .A) (givenOf 𝓤 H 𝓜 𝓖) (𝓜 .mem) (𝓡 .run) (tablesOf 𝓤 H 𝓜 (tables 𝓤 H 𝓜 𝓡 code.env))' % F
+    for c in callees:
+        t += '\n    (cited 𝓤 H (%s.Called 𝓤 H (𝓖 .A) (𝓜 .mem) (𝓡 .run)) 𝓜 𝓡 code.env %s %s-def.routine %s (%s-thm.met 𝓤 H 𝓜 𝓖 𝓡))' % (c.mod, c.key, c.F, c.calls, c.F)
+    return t + ')\n'
+
+
+def nth(i, base):
+    """Number i of a nested pair, with the parenthesis open."""
+    return '(%s%s .0' % (base, ' .1' * i)
+
+
 def prune(text):
     """The text with only those imports of its head, which goes to the first empty line, that the rest uses, in the layout of `rt fmt`."""
     head, rest = text.split('\n\n', 1)

@@ -6,20 +6,20 @@ import os
 import sys
 
 from parts import Kind, Slice
-from lending import Array, Lending
+from lending import Array, Entry, Lending
 
 ROOT = sys.argv[1] if len(sys.argv) > 1 else os.path.dirname(os.path.dirname(os.path.dirname(os.path.abspath(__file__))))
 HERE, KIT = 'trials_lending', 'walks'
 
 Setup, Request = (Kind(n, 'protocol_types') for n in ('Setup', 'Request'))
-Entry, PriceAnswer = (Kind(n, 'protocol_types', True) for n in ('Entry', 'PriceAnswer'))
+ScheduleEntry, PriceAnswer = (Kind(n, 'protocol_types', True) for n in ('Entry', 'PriceAnswer'))
 BUFFERS = ['blocks', 'held', 'marks']
 whole = 'setup (rival %s) requests entries' % ' '.join(BUFFERS)
 
 price_arrays = Lending(
-    root=ROOT, here=HERE, kit=KIT, name='price_arrays', crate='rival_pricer', entry='price', mod='Price',
-    params=[('setup', Setup)] + [(n, Slice('u32')) for n in BUFFERS] + [('entries', Array(Entry, 20)), ('requests', Array(Request, 8))],
-    refs=[], answer=PriceAnswer, result=PriceAnswer, made=None,
+    root=ROOT, here=HERE, kit=KIT, name='price_arrays', entry=Entry(HERE, 'rival_pricer', 'price', 'Price'),
+    params=[('setup', Setup)] + [(n, Slice('u32')) for n in BUFFERS] + [('entries', Array(ScheduleEntry, 20)), ('requests', Array(Request, 8))],
+    refs=[], answer=PriceAnswer, result=PriceAnswer,
     says='({answer} ≡ priced %s) × (rival {blocks} {held} {marks} ≡ priceTables %s)' % (whole, whole),
     cites=[('protocol', 'Rival', ['rival']), ('protocol', 'Pricer', ['price as priced', 'priceTables'])])
 

@@ -6,7 +6,7 @@ import os
 import sys
 
 from parts import Kind, Slice
-from lending import Array, Lending
+from lending import Array, Entry, Lending
 
 ROOT = sys.argv[1] if len(sys.argv) > 1 else os.path.dirname(os.path.dirname(os.path.dirname(os.path.abspath(__file__))))
 HERE, KIT = 'trials_lending', 'walks'
@@ -15,7 +15,7 @@ Setup, Account, Request, RunAnswer = (Kind(n, 'protocol_types') for n in ('Setup
 TABLES = ['blocks', 'counters', 'marks', 'words', 'memory']
 
 run_array = Lending(
-    root=ROOT, here=HERE, kit=KIT, name='run_array', crate='run', entry='run', mod='Run',
+    root=ROOT, here=HERE, kit=KIT, name='run_array', entry=Entry(HERE, 'run', 'run', 'Run'),
     params=[('setup', Setup)] + [(n, Slice('u32')) for n in TABLES] + [('account', Account), ('requests', Array(Request, 8)), ('values', Slice('u32'))],
     refs=['account'], answer=RunAnswer, result=Kind('Ran', 'host_numbers'), made='record {{ answer = {answer}; account = {account} }}', fields=['answer', 'account'],
     says='outcome {answer} (lent {blocks} {counters} {marks} {words} {memory}) {account} {values} ≡ ran (engine setup) (lent %s) account requests values' % ' '.join(TABLES),

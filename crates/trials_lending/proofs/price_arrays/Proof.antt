@@ -101,7 +101,7 @@ module _ {M : Type 1} (𝓤 : URA M) (H : Heap 𝓤) (A : Atoms 𝓤) (W : Given
     finish =
         qed W (Price.Left 𝓤 H A mem run″ W κ-blocks κ-held κ-marks q-blocks q-held q-marks γ-blocks γ-held γ-marks b-blocks o-blocks b-held o-held b-marks o-marks l-entries l-requests setup blocks held marks entries requests z ∷ []) ∵ split ! $ move ! (1 ∷ []) $ split ! $ move ! (1 ∷ []) $ split ! $ move ! (1 ∷ []) $ split ! $ move ! (1 ∷ []) $ split ! $ suffices ! _ (ends-at 𝓤 H A price-arrays.ended stayed (price-arrays.clauses 𝓤 H A mem run″) W bound (EL.val PriceAnswer-t.the-type PriceAnswer-l.the-laws (z .0)) (z .0) (tt, ((z .1), ((z .2), ((z .3), (tt, (tt, tt)))))) (tt, (told .blocks-len, (told .held-len, (told .marks-len, (tt, (tt, tt))))))) $ says ! (told .so) $ nothing ! $ move ! (6 ∷ 5 ∷ 4 ∷ 0 ∷ []) $ group ! 4 $ frame ! $ nothing ! $ owned ! (Array Request-t.the-row 8) (Is (Array Request-t.the-row 8)) (array-makes 𝓤 H A W Request-t.the-row (LL.makes Request-t.the-type Request-l.the-plain 𝓤 H A) 8) requests _ requests-is $ fjoin ! $ owned ! (Array Entry-t.the-row 20) (Is (Array Entry-t.the-row 20)) (array-makes 𝓤 H A W Entry-t.the-row (EL.makes Entry-t.the-type Entry-l.the-plain 𝓤 H A) 20) entries _ entries-is $ fjoin ! $ move ! (2 ∷ 0 ∷ []) $ fjoin ! $ move ! (1 ∷ 0 ∷ []) $ fjoin ! $ move ! (1 ∷ 0 ∷ []) $ fjoin ! $ owned ! Setup-t.the-row (Is Setup-t.the-row) (LL.makes Setup-t.the-type Setup-l.the-plain 𝓤 H A) setup _ setup-is $ fjoin ! $ frame ! $ owned ! PriceAnswer-t.the-row (Is PriceAnswer-t.the-row) (EL.makes PriceAnswer-t.the-type PriceAnswer-l.the-plain 𝓤 H A) (z .0) _ result-is $ done !
 
-  module _ (𝓣 : Tables 𝓤 H) (known : Triple 𝓤 (𝓣 .C #rival_pricer·price) (Price.Called 𝓤 H A mem run″)) where
+  module _ (𝓣 : Tables 𝓤 H) (known-price : Triple 𝓤 (𝓣 .C #rival_pricer·price) (Price.Called 𝓤 H A mem run″)) where
     abbrev C : Calls 𝓤 H
     C = 𝓣 .C
 
@@ -133,7 +133,7 @@ module _ {M : Type 1} (𝓤 : URA M) (H : Heap 𝓤) (A : Atoms 𝓤) (W : Given
         assigns ! (agg ! (and-then ! (load ! (from ! (stop !)) (look ! 18 refl)) (and-then ! (lit ! tt) (no-more !)))) (from ! (stop !)) (init ! 19 refl (tt, (tt, (record { fits = lit< tt }, tt)))) $
         move ! (8 ∷ []) $ use1 W (‵ (cellAt fullShare ((Array Entry-t.the-row 20) .mir) (array-vals (EL.vals Entry-t.the-type Entry-l.the-laws) entries) l₇ 0)) (W .laws .at-raw fullShare (tyArray Entry-l.mir 20) l₇ 0 (only (array-vals (EL.vals Entry-t.the-type Entry-l.the-laws) entries))) $ move ! (9 ∷ []) $ use1 W (‵ (cellAt fullShare ((Array Request-t.the-row 8) .mir) (array-vals (LL.vals Request-t.the-type Request-l.the-laws) requests) l₈ 0)) (W .laws .at-raw fullShare (tyArray Request-l.mir 8) l₈ 0 (only (array-vals (LL.vals Request-t.the-type Request-l.the-laws) requests))) $
         move ! (1 ∷ 0 ∷ []) $ group ! 2 $ move ! (1 ∷ 0 ∷ []) $ use2 W (later (some (λ (k : Price.Key 𝓤 H A mem run″ W κ-blocks κ-held κ-marks q-blocks q-held q-marks γ-blocks γ-held γ-marks b-blocks o-blocks b-held o-held b-marks o-marks l₇ l₈ setup blocks held marks entries requests). raw (Price.Called 𝓤 H A mem run″ .pre (Price.to 𝓤 H A mem run″ W κ-blocks κ-held κ-marks q-blocks q-held q-marks γ-blocks γ-held γ-marks b-blocks o-blocks b-held o-held b-marks o-marks l₇ l₈ setup blocks held marks entries requests k)) ⊛ Price.Out 𝓤 H A mem run″ W κ-blocks κ-held κ-marks q-blocks q-held q-marks γ-blocks γ-held γ-marks b-blocks o-blocks b-held o-held b-marks o-marks l₇ l₈ setup blocks held marks entries requests k))) (Price.before 𝓤 H A mem run″ W κ-blocks κ-held κ-marks q-blocks q-held q-marks γ-blocks γ-held γ-marks b-blocks o-blocks b-held o-held b-marks o-marks l₇ l₈ setup blocks held marks entries requests setup-is entries-is requests-is) $ await ! tt $ pick ! (λ k. split ! $
-        calls-at ! (fmOf 𝓤 H (W .laws) 𝓣) (Price.Called 𝓤 H A mem run″) known (Price.to 𝓤 H A mem run″ W κ-blocks κ-held κ-marks q-blocks q-held q-marks γ-blocks γ-held γ-marks b-blocks o-blocks b-held o-held b-marks o-marks l₇ l₈ setup blocks held marks entries requests k) (and-then ! (load ! (from ! (stop !)) (look ! 3 refl)) (and-then ! (load ! (from ! (stop !)) (look ! 10 refl)) (and-then ! (load ! (from ! (stop !)) (look ! 12 refl)) (and-then ! (load ! (from ! (stop !)) (look ! 14 refl)) (and-then ! (load ! (from ! (stop !)) (look ! 16 refl)) (and-then ! (load ! (from ! (stop !)) (look ! 18 refl)) (no-more !))))))) (λ w.
+        calls-at ! (fmOf 𝓤 H (W .laws) 𝓣) (Price.Called 𝓤 H A mem run″) known-price (Price.to 𝓤 H A mem run″ W κ-blocks κ-held κ-marks q-blocks q-held q-marks γ-blocks γ-held γ-marks b-blocks o-blocks b-held o-held b-marks o-marks l₇ l₈ setup blocks held marks entries requests k) (and-then ! (load ! (from ! (stop !)) (look ! 3 refl)) (and-then ! (load ! (from ! (stop !)) (look ! 10 refl)) (and-then ! (load ! (from ! (stop !)) (look ! 12 refl)) (and-then ! (load ! (from ! (stop !)) (look ! 14 refl)) (and-then ! (load ! (from ! (stop !)) (look ! 16 refl)) (and-then ! (load ! (from ! (stop !)) (look ! 18 refl)) (no-more !))))))) (λ w.
         move ! (0 ∷ 1 ∷ []) $ use2 W (later (some (λ (z : Price.End 𝓤 H A mem run″ W κ-blocks κ-held κ-marks q-blocks q-held q-marks γ-blocks γ-held γ-marks b-blocks o-blocks b-held o-held b-marks o-marks l₇ l₈ setup blocks held marks entries requests). given (Price.Told 𝓤 H A mem run″ W κ-blocks κ-held κ-marks q-blocks q-held q-marks γ-blocks γ-held γ-marks b-blocks o-blocks b-held o-held b-marks o-marks l₇ l₈ setup blocks held marks entries requests w z) (Price.Left 𝓤 H A mem run″ W κ-blocks κ-held κ-marks q-blocks q-held q-marks γ-blocks γ-held γ-marks b-blocks o-blocks b-held o-held b-marks o-marks l₇ l₈ setup blocks held marks entries requests z ⊛ Price.Cells-after 𝓤 H A mem run″ W κ-blocks κ-held κ-marks q-blocks q-held q-marks γ-blocks γ-held γ-marks b-blocks o-blocks b-held o-held b-marks o-marks l₇ l₈ setup blocks held marks entries requests z)))) (Price.after 𝓤 H A mem run″ W κ-blocks κ-held κ-marks q-blocks q-held q-marks γ-blocks γ-held γ-marks b-blocks o-blocks b-held o-held b-marks o-marks l₇ l₈ setup blocks held marks entries requests (entries-is .1 .0 .1) (requests-is .1 .0 .1) k w) $ await ! tt $ pick ! (λ z. learn ! (λ told. split ! $ move ! (1 ∷ []) $ split ! $
         move ! (0 ∷ []) $ use1 W (‵ (fat fullShare (tyArray Entry-l.mir 20) l₇ 0 (only (array-vals (EL.vals Entry-t.the-type Entry-l.the-laws) entries)))) (W .laws .raw-at fullShare (tyArray Entry-l.mir 20) l₇ 0 (only (array-vals (EL.vals Entry-t.the-type Entry-l.the-laws) entries))) $ move ! (1 ∷ []) $ use1 W (‵ (fat fullShare (tyArray Request-l.mir 8) l₈ 0 (only (array-vals (LL.vals Request-t.the-type Request-l.the-laws) requests)))) (W .laws .raw-at fullShare (tyArray Request-l.mir 8) l₈ 0 (only (array-vals (LL.vals Request-t.the-type Request-l.the-laws) requests))) $
         land ! (from ! (stop !)) (init ! 3 refl (EL.lawful PriceAnswer-t.the-type PriceAnswer-l.the-laws 𝓤 H A W tt .typed (z .0) (w ∷ []) (subst (λ (u : Val). Is PriceAnswer-t.the-row (z .0) (u ∷ [])) (sym (told .value)) (told .is)) .0)) $
@@ -142,12 +142,12 @@ module _ {M : Type 1} (𝓤 : URA M) (H : Heap 𝓤) (A : Atoms 𝓤) (W : Given
         returns ! (look ! 1 refl) $ forget ! 1 refl $ forget ! 2 refl $ forget ! 3 refl $ forget ! 4 refl $ forget ! 5 refl $ forget ! 6 refl $ forget ! 7 refl $ forget ! 8 refl $ forget ! 9 refl $ forget ! 10 refl $ forget ! 11 refl $ forget ! 12 refl $ forget ! 13 refl $ forget ! 14 refl $ forget ! 15 refl $ forget ! 16 refl $ forget ! 17 refl $ forget ! 18 refl $ forget ! 19 refl $
         leave-all ! (blocks-of (code.function .locals) (l₀ ∷ l₁ ∷ l₂ ∷ l₃ ∷ l₄ ∷ l₅ ∷ l₆ ∷ l₇ ∷ l₈ ∷ l₉ ∷ l₁₀ ∷ l₁₁ ∷ l₁₂ ∷ l₁₃ ∷ l₁₄ ∷ l₁₅ ∷ l₁₆ ∷ l₁₇ ∷ l₁₈ ∷ [])) [] (done !))))))
 
-module _ {M : Type 1} (𝓤 : URA M) (H : Heap 𝓤) (A : Atoms 𝓤) (W : Given 𝓤 H A) (mem : Memory → SProp 𝓤) (run″ : Routine → Fun 𝓤) (𝓣 : Tables 𝓤 H) (known : Triple 𝓤 (𝓣 .C #rival_pricer·price) (Price.Called 𝓤 H A mem run″)) where
+module _ {M : Type 1} (𝓤 : URA M) (H : Heap 𝓤) (A : Atoms 𝓤) (W : Given 𝓤 H A) (mem : Memory → SProp 𝓤) (run″ : Routine → Fun 𝓤) (𝓣 : Tables 𝓤 H) (known-price : Triple 𝓤 (𝓣 .C #rival_pricer·price) (Price.Called 𝓤 H A mem run″)) where
   price-arrays-walks : Walks 𝓤 H A price-arrays.ended stayed (WpFn 𝓤 H (𝓣 .C) (𝓣 .Λ) code.function) (price-arrays.clauses 𝓤 H A mem run″)
   price-arrays-walks = walked 𝓤 H A price-arrays.ended stayed (price-arrays.clauses 𝓤 H A mem run″) (WpFn 𝓤 H (𝓣 .C) (𝓣 .Λ) code.function)
       (λ κs. ((LL.vals Setup-t.the-type Setup-l.the-laws), (slice-vals, (slice-vals, (slice-vals, ((array-vals (EL.vals Entry-t.the-type Entry-l.the-laws)), ((array-vals (LL.vals Request-t.the-type Request-l.the-laws)), tt)))))))
       (λ κs. ((LL.tells Setup-t.the-type Setup-l.the-laws), ((mut-slice-tells (named 0) (κs .0) u32), ((mut-slice-tells (named 1) (κs .1 .0) u32), ((mut-slice-tells (named 2) (κs .1 .1 .0) u32), ((array-tells Entry-t.the-row (EL.vals Entry-t.the-type Entry-l.the-laws) (EL.tells Entry-t.the-type Entry-l.the-laws) 20), ((array-tells Request-t.the-row (LL.vals Request-t.the-type Request-l.the-laws) (LL.tells Request-t.the-type Request-l.the-laws) 8), tt)))))))
-      (λ κs qs bounds a g are. via 𝓤 _ (fst∗ 𝓤 _ (emp 𝓤)) (walk 𝓤 H A W mem run″ (κs .0) (κs .1 .0) (κs .1 .1 .0) (qs .0) (qs .1 .0) (qs .1 .1 .0) (a .1 .0 .name) (a .1 .1 .0 .name) (a .1 .1 .1 .0 .name) (a .1 .0 .ptr .0) (a .1 .0 .ptr .1) (a .1 .1 .0 .ptr .0) (a .1 .1 .0 .ptr .1) (a .1 .1 .1 .0 .ptr .0) (a .1 .1 .1 .0 .ptr .1) (a .0) (a .1 .0 .now) (a .1 .1 .0 .now) (a .1 .1 .1 .0 .now) (a .1 .1 .1 .1 .0) (a .1 .1 .1 .1 .1 .0) (are .0) (are .1 .1 .1 .1 .0) (are .1 .1 .1 .1 .1 .0) (are .1 .0 .0 .1) (are .1 .1 .0 .0 .1) (are .1 .1 .1 .0 .0 .1) 𝓣 known))
+      (λ κs qs bounds a g are. via 𝓤 _ (fst∗ 𝓤 _ (emp 𝓤)) (walk 𝓤 H A W mem run″ (κs .0) (κs .1 .0) (κs .1 .1 .0) (qs .0) (qs .1 .0) (qs .1 .1 .0) (a .1 .0 .name) (a .1 .1 .0 .name) (a .1 .1 .1 .0 .name) (a .1 .0 .ptr .0) (a .1 .0 .ptr .1) (a .1 .1 .0 .ptr .0) (a .1 .1 .0 .ptr .1) (a .1 .1 .1 .0 .ptr .0) (a .1 .1 .1 .0 .ptr .1) (a .0) (a .1 .0 .now) (a .1 .1 .0 .now) (a .1 .1 .1 .0 .now) (a .1 .1 .1 .1 .0) (a .1 .1 .1 .1 .1 .0) (are .0) (are .1 .1 .1 .1 .0) (are .1 .1 .1 .1 .1 .0) (are .1 .0 .0 .1) (are .1 .1 .0 .0 .1) (are .1 .1 .1 .0 .0 .1) 𝓣 known-price))
 
   price-arrays-meets : Meets 𝓤 H A price-arrays.signature (WpFn 𝓤 H (𝓣 .C) (𝓣 .Λ) code.function) (price-arrays.spec 𝓤 H A mem run″)
   price-arrays-meets = walk-meets 𝓤 H A price-arrays.ended stayed W (goes-none 𝓤 H A W 3 (λ _. Setup-t.the-row) yes (λ κs x f. refl), (goes-gave-slice 𝓤 H A W 3 0 tt (plain (λ _. u32)), (goes-gave-slice 𝓤 H A W 3 1 tt (plain (λ _. u32)), (goes-gave-slice 𝓤 H A W 3 2 tt (plain (λ _. u32)), (goes-none 𝓤 H A W 3 (λ _. (Array Entry-t.the-row 20)) yes (λ κs x f. refl), (goes-none 𝓤 H A W 3 (λ _. (Array Request-t.the-row 8)) yes (λ κs x f. refl), tt))))))

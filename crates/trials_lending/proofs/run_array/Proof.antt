@@ -102,7 +102,7 @@ module _ {M : Type 1} (𝓤 : URA M) (H : Heap 𝓤) (A : Atoms 𝓤) (W : Given
     finish =
         qed W (Run.Left 𝓤 H A mem run″ W κ-blocks κ-counters κ-marks κ-words κ-memory κ-values q-blocks q-counters q-marks q-words q-memory q-values γ-blocks γ-counters γ-marks γ-words γ-memory γ-values b-blocks o-blocks b-counters o-counters b-marks o-marks b-words o-words b-memory o-memory b-values o-values l-account l-requests setup blocks counters marks words memory account requests values z ∷ []) ∵ split ! $ move ! (1 ∷ []) $ split ! $ move ! (1 ∷ []) $ split ! $ move ! (1 ∷ []) $ split ! $ move ! (1 ∷ []) $ split ! $ move ! (1 ∷ []) $ split ! $ move ! (1 ∷ []) $ split ! $ move ! (1 ∷ []) $ split ! $ move ! (1 ∷ []) $ split ! $ move ! (1 ∷ []) $ split ! $ move ! (1 ∷ []) $ split ! $ suffices ! _ (ends-at 𝓤 H A run-array.ended stayed (run-array.clauses 𝓤 H A mem run″) W bound (LL.val Ran-t.the-type Ran-l.the-laws (record { answer = (z .0); account = (z .6) })) (record { answer = (z .0); account = (z .6) }) (tt, ((z .1), ((z .2), ((z .3), ((z .4), ((z .5), (tt, (tt, ((z .7), tt))))))))) (tt, (told .blocks-len, (told .counters-len, (told .marks-len, (told .words-len, (told .memory-len, (tt, (tt, (told .values-len, tt)))))))))) $ says ! (told .so) $ nothing ! $ move ! (12 ∷ 11 ∷ 10 ∷ 9 ∷ 8 ∷ 7 ∷ 0 ∷ []) $ group ! 7 $ frame ! $ nothing ! $ move ! (2 ∷ 0 ∷ []) $ fjoin ! $ owned ! (Array Request-t.the-row 8) (Is (Array Request-t.the-row 8)) (array-makes 𝓤 H A W Request-t.the-row (LL.makes Request-t.the-type Request-l.the-plain 𝓤 H A) 8) requests _ requests-is $ fjoin ! $ owned ! Account-t.the-row (Is Account-t.the-row) (LL.makes Account-t.the-type Account-l.the-plain 𝓤 H A) account _ account-is $ fjoin ! $ move ! (1 ∷ 0 ∷ []) $ fjoin ! $ move ! (1 ∷ 0 ∷ []) $ fjoin ! $ move ! (1 ∷ 0 ∷ []) $ fjoin ! $ move ! (1 ∷ 0 ∷ []) $ fjoin ! $ move ! (1 ∷ 0 ∷ []) $ fjoin ! $ owned ! Setup-t.the-row (Is Setup-t.the-row) (LL.makes Setup-t.the-type Setup-l.the-plain 𝓤 H A) setup _ setup-is $ fjoin ! $ frame ! $ owned ! Ran-t.the-row (Is Ran-t.the-row) (LL.makes Ran-t.the-type Ran-l.the-plain 𝓤 H A) (record { answer = (z .0); account = (z .6) }) _ result-is $ done !
 
-  module _ (𝓣 : Tables 𝓤 H) (known : Triple 𝓤 (𝓣 .C #run·run) (Run.Called 𝓤 H A mem run″)) where
+  module _ (𝓣 : Tables 𝓤 H) (known-run : Triple 𝓤 (𝓣 .C #run·run) (Run.Called 𝓤 H A mem run″)) where
     abbrev C : Calls 𝓤 H
     C = 𝓣 .C
 
@@ -142,7 +142,7 @@ module _ {M : Type 1} (𝓤 : URA M) (H : Heap 𝓤) (A : Atoms 𝓤) (W : Given
         assigns ! (agg ! (and-then ! (load ! (from ! (stop !)) (look ! 27 refl)) (and-then ! (load ! (from ! (fld ! refl (stop !))) (look-in ! 10 (sub ! 1 refl (whole !)))) (no-more !)))) (from ! (stop !)) (init ! 28 refl (tt, (tt, (record { fits = r-values .0 }, tt)))) $
         move ! (11 ∷ []) $ use1 W (‵ (cellAt fullShare (Account-t.the-row .mir) (LL.vals Account-t.the-type Account-l.the-laws account) l₁₀ 0)) (W .laws .at-raw fullShare Account-l.mir l₁₀ 0 (LL.val Account-t.the-type Account-l.the-laws account)) $ move ! (12 ∷ []) $ use1 W (‵ (cellAt fullShare ((Array Request-t.the-row 8) .mir) (array-vals (LL.vals Request-t.the-type Request-l.the-laws) requests) l₁₁ 0)) (W .laws .at-raw fullShare (tyArray Request-l.mir 8) l₁₁ 0 (only (array-vals (LL.vals Request-t.the-type Request-l.the-laws) requests))) $
         move ! (1 ∷ 0 ∷ []) $ group ! 2 $ move ! (1 ∷ 0 ∷ []) $ use2 W (later (some (λ (k : Run.Key 𝓤 H A mem run″ W κ-blocks κ-counters κ-marks κ-words κ-memory κ-values q-blocks q-counters q-marks q-words q-memory q-values γ-blocks γ-counters γ-marks γ-words γ-memory γ-values b-blocks o-blocks b-counters o-counters b-marks o-marks b-words o-words b-memory o-memory b-values o-values l₁₀ l₁₁ setup blocks counters marks words memory account requests values). raw (Run.Called 𝓤 H A mem run″ .pre (Run.to 𝓤 H A mem run″ W κ-blocks κ-counters κ-marks κ-words κ-memory κ-values q-blocks q-counters q-marks q-words q-memory q-values γ-blocks γ-counters γ-marks γ-words γ-memory γ-values b-blocks o-blocks b-counters o-counters b-marks o-marks b-words o-words b-memory o-memory b-values o-values l₁₀ l₁₁ setup blocks counters marks words memory account requests values k)) ⊛ Run.Out 𝓤 H A mem run″ W κ-blocks κ-counters κ-marks κ-words κ-memory κ-values q-blocks q-counters q-marks q-words q-memory q-values γ-blocks γ-counters γ-marks γ-words γ-memory γ-values b-blocks o-blocks b-counters o-counters b-marks o-marks b-words o-words b-memory o-memory b-values o-values l₁₀ l₁₁ setup blocks counters marks words memory account requests values k))) (Run.before 𝓤 H A mem run″ W κ-blocks κ-counters κ-marks κ-words κ-memory κ-values q-blocks q-counters q-marks q-words q-memory q-values γ-blocks γ-counters γ-marks γ-words γ-memory γ-values b-blocks o-blocks b-counters o-counters b-marks o-marks b-words o-words b-memory o-memory b-values o-values l₁₀ l₁₁ setup blocks counters marks words memory account requests values setup-is account-is requests-is) $ await ! tt $ pick ! (λ k. split ! $
-        calls-at ! (fmOf 𝓤 H (W .laws) 𝓣) (Run.Called 𝓤 H A mem run″) known (Run.to 𝓤 H A mem run″ W κ-blocks κ-counters κ-marks κ-words κ-memory κ-values q-blocks q-counters q-marks q-words q-memory q-values γ-blocks γ-counters γ-marks γ-words γ-memory γ-values b-blocks o-blocks b-counters o-counters b-marks o-marks b-words o-words b-memory o-memory b-values o-values l₁₀ l₁₁ setup blocks counters marks words memory account requests values k) (and-then ! (load ! (from ! (stop !)) (look ! 3 refl)) (and-then ! (load ! (from ! (stop !)) (look ! 14 refl)) (and-then ! (load ! (from ! (stop !)) (look ! 16 refl)) (and-then ! (load ! (from ! (stop !)) (look ! 18 refl)) (and-then ! (load ! (from ! (stop !)) (look ! 20 refl)) (and-then ! (load ! (from ! (stop !)) (look ! 22 refl)) (and-then ! (load ! (from ! (stop !)) (look ! 23 refl)) (and-then ! (load ! (from ! (stop !)) (look ! 25 refl)) (and-then ! (load ! (from ! (stop !)) (look ! 27 refl)) (no-more !)))))))))) (λ w.
+        calls-at ! (fmOf 𝓤 H (W .laws) 𝓣) (Run.Called 𝓤 H A mem run″) known-run (Run.to 𝓤 H A mem run″ W κ-blocks κ-counters κ-marks κ-words κ-memory κ-values q-blocks q-counters q-marks q-words q-memory q-values γ-blocks γ-counters γ-marks γ-words γ-memory γ-values b-blocks o-blocks b-counters o-counters b-marks o-marks b-words o-words b-memory o-memory b-values o-values l₁₀ l₁₁ setup blocks counters marks words memory account requests values k) (and-then ! (load ! (from ! (stop !)) (look ! 3 refl)) (and-then ! (load ! (from ! (stop !)) (look ! 14 refl)) (and-then ! (load ! (from ! (stop !)) (look ! 16 refl)) (and-then ! (load ! (from ! (stop !)) (look ! 18 refl)) (and-then ! (load ! (from ! (stop !)) (look ! 20 refl)) (and-then ! (load ! (from ! (stop !)) (look ! 22 refl)) (and-then ! (load ! (from ! (stop !)) (look ! 23 refl)) (and-then ! (load ! (from ! (stop !)) (look ! 25 refl)) (and-then ! (load ! (from ! (stop !)) (look ! 27 refl)) (no-more !)))))))))) (λ w.
         move ! (0 ∷ 1 ∷ []) $ use2 W (later (some (λ (z : Run.End 𝓤 H A mem run″ W κ-blocks κ-counters κ-marks κ-words κ-memory κ-values q-blocks q-counters q-marks q-words q-memory q-values γ-blocks γ-counters γ-marks γ-words γ-memory γ-values b-blocks o-blocks b-counters o-counters b-marks o-marks b-words o-words b-memory o-memory b-values o-values l₁₀ l₁₁ setup blocks counters marks words memory account requests values). given (Run.Told 𝓤 H A mem run″ W κ-blocks κ-counters κ-marks κ-words κ-memory κ-values q-blocks q-counters q-marks q-words q-memory q-values γ-blocks γ-counters γ-marks γ-words γ-memory γ-values b-blocks o-blocks b-counters o-counters b-marks o-marks b-words o-words b-memory o-memory b-values o-values l₁₀ l₁₁ setup blocks counters marks words memory account requests values w z) (Run.Left 𝓤 H A mem run″ W κ-blocks κ-counters κ-marks κ-words κ-memory κ-values q-blocks q-counters q-marks q-words q-memory q-values γ-blocks γ-counters γ-marks γ-words γ-memory γ-values b-blocks o-blocks b-counters o-counters b-marks o-marks b-words o-words b-memory o-memory b-values o-values l₁₀ l₁₁ setup blocks counters marks words memory account requests values z ⊛ Run.Cells-after 𝓤 H A mem run″ W κ-blocks κ-counters κ-marks κ-words κ-memory κ-values q-blocks q-counters q-marks q-words q-memory q-values γ-blocks γ-counters γ-marks γ-words γ-memory γ-values b-blocks o-blocks b-counters o-counters b-marks o-marks b-words o-words b-memory o-memory b-values o-values l₁₀ l₁₁ setup blocks counters marks words memory account requests values z)))) (Run.after 𝓤 H A mem run″ W κ-blocks κ-counters κ-marks κ-words κ-memory κ-values q-blocks q-counters q-marks q-words q-memory q-values γ-blocks γ-counters γ-marks γ-words γ-memory γ-values b-blocks o-blocks b-counters o-counters b-marks o-marks b-words o-words b-memory o-memory b-values o-values l₁₀ l₁₁ setup blocks counters marks words memory account requests values (requests-is .1 .0 .1) k w) $ await ! tt $ pick ! (λ z. learn ! (λ told. split ! $ move ! (1 ∷ []) $ split ! $
         move ! (0 ∷ []) $ use1 W (‵ (fat fullShare Account-l.mir l₁₀ 0 (LL.val Account-t.the-type Account-l.the-laws (z .6)))) (W .laws .raw-at fullShare Account-l.mir l₁₀ 0 (LL.val Account-t.the-type Account-l.the-laws (z .6))) $ move ! (1 ∷ []) $ use1 W (‵ (fat fullShare (tyArray Request-l.mir 8) l₁₁ 0 (only (array-vals (LL.vals Request-t.the-type Request-l.the-laws) requests)))) (W .laws .raw-at fullShare (tyArray Request-l.mir 8) l₁₁ 0 (only (array-vals (LL.vals Request-t.the-type Request-l.the-laws) requests))) $
         land ! (from ! (stop !)) (init ! 13 refl (LL.lawful RunAnswer-t.the-type RunAnswer-l.the-laws 𝓤 H A W .typed (z .0) (w ∷ []) (subst (λ (u : Val). Is RunAnswer-t.the-row (z .0) (u ∷ [])) (sym (told .value)) (told .is)) .0)) $
@@ -153,12 +153,12 @@ module _ {M : Type 1} (𝓤 : URA M) (H : Heap 𝓤) (A : Atoms 𝓤) (W : Given
         returns ! (look ! 1 refl) $ forget ! 1 refl $ forget ! 2 refl $ forget ! 3 refl $ forget ! 4 refl $ forget ! 5 refl $ forget ! 6 refl $ forget ! 7 refl $ forget ! 8 refl $ forget ! 9 refl $ forget ! 10 refl $ forget ! 11 refl $ forget ! 12 refl $ forget ! 13 refl $ forget ! 14 refl $ forget ! 15 refl $ forget ! 16 refl $ forget ! 17 refl $ forget ! 18 refl $ forget ! 19 refl $ forget ! 20 refl $ forget ! 21 refl $ forget ! 22 refl $ forget ! 23 refl $ forget ! 24 refl $ forget ! 25 refl $ forget ! 26 refl $ forget ! 27 refl $ forget ! 28 refl $ forget ! 29 refl $
         leave-all ! (blocks-of (code.function .locals) (l₀ ∷ l₁ ∷ l₂ ∷ l₃ ∷ l₄ ∷ l₅ ∷ l₆ ∷ l₇ ∷ l₈ ∷ l₉ ∷ l₁₀ ∷ l₁₁ ∷ l₁₂ ∷ l₁₃ ∷ l₁₄ ∷ l₁₅ ∷ l₁₆ ∷ l₁₇ ∷ l₁₈ ∷ l₁₉ ∷ l₂₀ ∷ l₂₁ ∷ l₂₂ ∷ l₂₃ ∷ l₂₄ ∷ l₂₅ ∷ l₂₆ ∷ l₂₇ ∷ l₂₈ ∷ [])) [] (done !))))))
 
-module _ {M : Type 1} (𝓤 : URA M) (H : Heap 𝓤) (A : Atoms 𝓤) (W : Given 𝓤 H A) (mem : Memory → SProp 𝓤) (run″ : Routine → Fun 𝓤) (𝓣 : Tables 𝓤 H) (known : Triple 𝓤 (𝓣 .C #run·run) (Run.Called 𝓤 H A mem run″)) where
+module _ {M : Type 1} (𝓤 : URA M) (H : Heap 𝓤) (A : Atoms 𝓤) (W : Given 𝓤 H A) (mem : Memory → SProp 𝓤) (run″ : Routine → Fun 𝓤) (𝓣 : Tables 𝓤 H) (known-run : Triple 𝓤 (𝓣 .C #run·run) (Run.Called 𝓤 H A mem run″)) where
   run-array-walks : Walks 𝓤 H A run-array.ended stayed (WpFn 𝓤 H (𝓣 .C) (𝓣 .Λ) code.function) (run-array.clauses 𝓤 H A mem run″)
   run-array-walks = walked 𝓤 H A run-array.ended stayed (run-array.clauses 𝓤 H A mem run″) (WpFn 𝓤 H (𝓣 .C) (𝓣 .Λ) code.function)
       (λ κs. ((LL.vals Setup-t.the-type Setup-l.the-laws), (slice-vals, (slice-vals, (slice-vals, (slice-vals, (slice-vals, ((LL.vals Account-t.the-type Account-l.the-laws), ((array-vals (LL.vals Request-t.the-type Request-l.the-laws)), (slice-vals, tt))))))))))
       (λ κs. ((LL.tells Setup-t.the-type Setup-l.the-laws), ((mut-slice-tells (named 0) (κs .0) u32), ((mut-slice-tells (named 1) (κs .1 .0) u32), ((mut-slice-tells (named 2) (κs .1 .1 .0) u32), ((mut-slice-tells (named 3) (κs .1 .1 .1 .0) u32), ((mut-slice-tells (named 4) (κs .1 .1 .1 .1 .0) u32), ((LL.tells Account-t.the-type Account-l.the-laws), ((array-tells Request-t.the-row (LL.vals Request-t.the-type Request-l.the-laws) (LL.tells Request-t.the-type Request-l.the-laws) 8), ((mut-slice-tells (named 5) (κs .1 .1 .1 .1 .1 .0) u32), tt))))))))))
-      (λ κs qs bounds a g are. via 𝓤 _ (fst∗ 𝓤 _ (emp 𝓤)) (walk 𝓤 H A W mem run″ (κs .0) (κs .1 .0) (κs .1 .1 .0) (κs .1 .1 .1 .0) (κs .1 .1 .1 .1 .0) (κs .1 .1 .1 .1 .1 .0) (qs .0) (qs .1 .0) (qs .1 .1 .0) (qs .1 .1 .1 .0) (qs .1 .1 .1 .1 .0) (qs .1 .1 .1 .1 .1 .0) (a .1 .0 .name) (a .1 .1 .0 .name) (a .1 .1 .1 .0 .name) (a .1 .1 .1 .1 .0 .name) (a .1 .1 .1 .1 .1 .0 .name) (a .1 .1 .1 .1 .1 .1 .1 .1 .0 .name) (a .1 .0 .ptr .0) (a .1 .0 .ptr .1) (a .1 .1 .0 .ptr .0) (a .1 .1 .0 .ptr .1) (a .1 .1 .1 .0 .ptr .0) (a .1 .1 .1 .0 .ptr .1) (a .1 .1 .1 .1 .0 .ptr .0) (a .1 .1 .1 .1 .0 .ptr .1) (a .1 .1 .1 .1 .1 .0 .ptr .0) (a .1 .1 .1 .1 .1 .0 .ptr .1) (a .1 .1 .1 .1 .1 .1 .1 .1 .0 .ptr .0) (a .1 .1 .1 .1 .1 .1 .1 .1 .0 .ptr .1) (a .0) (a .1 .0 .now) (a .1 .1 .0 .now) (a .1 .1 .1 .0 .now) (a .1 .1 .1 .1 .0 .now) (a .1 .1 .1 .1 .1 .0 .now) (a .1 .1 .1 .1 .1 .1 .0) (a .1 .1 .1 .1 .1 .1 .1 .0) (a .1 .1 .1 .1 .1 .1 .1 .1 .0 .now) (are .0) (are .1 .1 .1 .1 .1 .1 .0) (are .1 .1 .1 .1 .1 .1 .1 .0) (are .1 .0 .0 .1) (are .1 .1 .0 .0 .1) (are .1 .1 .1 .0 .0 .1) (are .1 .1 .1 .1 .0 .0 .1) (are .1 .1 .1 .1 .1 .0 .0 .1) (are .1 .1 .1 .1 .1 .1 .1 .1 .0 .0 .1) 𝓣 known))
+      (λ κs qs bounds a g are. via 𝓤 _ (fst∗ 𝓤 _ (emp 𝓤)) (walk 𝓤 H A W mem run″ (κs .0) (κs .1 .0) (κs .1 .1 .0) (κs .1 .1 .1 .0) (κs .1 .1 .1 .1 .0) (κs .1 .1 .1 .1 .1 .0) (qs .0) (qs .1 .0) (qs .1 .1 .0) (qs .1 .1 .1 .0) (qs .1 .1 .1 .1 .0) (qs .1 .1 .1 .1 .1 .0) (a .1 .0 .name) (a .1 .1 .0 .name) (a .1 .1 .1 .0 .name) (a .1 .1 .1 .1 .0 .name) (a .1 .1 .1 .1 .1 .0 .name) (a .1 .1 .1 .1 .1 .1 .1 .1 .0 .name) (a .1 .0 .ptr .0) (a .1 .0 .ptr .1) (a .1 .1 .0 .ptr .0) (a .1 .1 .0 .ptr .1) (a .1 .1 .1 .0 .ptr .0) (a .1 .1 .1 .0 .ptr .1) (a .1 .1 .1 .1 .0 .ptr .0) (a .1 .1 .1 .1 .0 .ptr .1) (a .1 .1 .1 .1 .1 .0 .ptr .0) (a .1 .1 .1 .1 .1 .0 .ptr .1) (a .1 .1 .1 .1 .1 .1 .1 .1 .0 .ptr .0) (a .1 .1 .1 .1 .1 .1 .1 .1 .0 .ptr .1) (a .0) (a .1 .0 .now) (a .1 .1 .0 .now) (a .1 .1 .1 .0 .now) (a .1 .1 .1 .1 .0 .now) (a .1 .1 .1 .1 .1 .0 .now) (a .1 .1 .1 .1 .1 .1 .0) (a .1 .1 .1 .1 .1 .1 .1 .0) (a .1 .1 .1 .1 .1 .1 .1 .1 .0 .now) (are .0) (are .1 .1 .1 .1 .1 .1 .0) (are .1 .1 .1 .1 .1 .1 .1 .0) (are .1 .0 .0 .1) (are .1 .1 .0 .0 .1) (are .1 .1 .1 .0 .0 .1) (are .1 .1 .1 .1 .0 .0 .1) (are .1 .1 .1 .1 .1 .0 .0 .1) (are .1 .1 .1 .1 .1 .1 .1 .1 .0 .0 .1) 𝓣 known-run))
 
   run-array-meets : Meets 𝓤 H A run-array.signature (WpFn 𝓤 H (𝓣 .C) (𝓣 .Λ) code.function) (run-array.spec 𝓤 H A mem run″)
   run-array-meets = walk-meets 𝓤 H A run-array.ended stayed W (goes-none 𝓤 H A W 6 (λ _. Setup-t.the-row) yes (λ κs x f. refl), (goes-gave-slice 𝓤 H A W 6 0 tt (plain (λ _. u32)), (goes-gave-slice 𝓤 H A W 6 1 tt (plain (λ _. u32)), (goes-gave-slice 𝓤 H A W 6 2 tt (plain (λ _. u32)), (goes-gave-slice 𝓤 H A W 6 3 tt (plain (λ _. u32)), (goes-gave-slice 𝓤 H A W 6 4 tt (plain (λ _. u32)), (goes-none 𝓤 H A W 6 (λ _. Account-t.the-row) yes (λ κs x f. refl), (goes-none 𝓤 H A W 6 (λ _. (Array Request-t.the-row 8)) yes (λ κs x f. refl), (goes-gave-slice 𝓤 H A W 6 5 tt (plain (λ _. u32)), tt)))))))))
