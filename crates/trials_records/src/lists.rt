@@ -54,41 +54,29 @@ pub(crate) fn session_after() -> [Request; REQUESTS] {
     ]
 }
 
-fn fetch(processor: u32, block: u32) -> Entry {
-    Entry::Fetch(processor, Block(block))
-}
-
-fn write_back(processor: u32, block: u32) -> Entry {
-    Entry::WriteBack(processor, Block(block))
-}
-
-fn drop_of(processor: u32, block: u32) -> Entry {
-    Entry::Drop(processor, Block(block))
-}
-
 // A legal schedule for the session, with moves after its last completion.
 pub(crate) fn schedule() -> [Entry; ENTRIES] {
     [
-        fetch(0, 0),
+        Entry::Fetch(0, Block(0)),
         Entry::Complete,
-        fetch(1, 0),
+        Entry::Fetch(1, Block(0)),
         Entry::Complete,
         Entry::CompleteByBroadcast,
-        drop_of(1, 0),
+        Entry::Drop(1, Block(0)),
         Entry::Complete,
         Entry::Complete,
         Entry::Complete,
-        write_back(0, 0),
-        drop_of(0, 0),
-        fetch(0, 2),
+        Entry::WriteBack(0, Block(0)),
+        Entry::Drop(0, Block(0)),
+        Entry::Fetch(0, Block(2)),
         Entry::Complete,
-        fetch(1, 0),
+        Entry::Fetch(1, Block(0)),
         Entry::Complete,
-        fetch(2, 3),
-        write_back(2, 3),
-        drop_of(2, 3),
-        drop_of(1, 0),
-        fetch(1, 4),
+        Entry::Fetch(2, Block(3)),
+        Entry::WriteBack(2, Block(3)),
+        Entry::Drop(2, Block(3)),
+        Entry::Drop(1, Block(0)),
+        Entry::Fetch(1, Block(4)),
     ]
 }
 
@@ -118,9 +106,9 @@ pub(crate) fn any_entry(cells: &mut Cells) -> Entry {
     let b = mostly_below(cells, board::BLOCKS);
     let kind = draw(cells, 5);
     match kind {
-        0 => fetch(i, b),
-        1 => write_back(i, b),
-        2 => drop_of(i, b),
+        0 => Entry::Fetch(i, Block(b)),
+        1 => Entry::WriteBack(i, Block(b)),
+        2 => Entry::Drop(i, Block(b)),
         3 => Entry::Complete,
         _ => Entry::CompleteByBroadcast,
     }

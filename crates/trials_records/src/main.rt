@@ -86,8 +86,6 @@ fn schedules(cells: &mut Cells, n: u32) {
 fn print_all(cells: &Cells) {
     state::print_kind(cells, state::RUN, b"run");
     state::print_kind(cells, state::PRICE, b"price");
-    state::print_cell(cells, b"requests served in runs ", state::REQUESTS);
-    state::print_cell(cells, b"cycles billed in runs ", state::CYCLES);
     state::print_cell(cells, b"differences ", state::DIFFERENCES);
 }
 

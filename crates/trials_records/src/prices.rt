@@ -79,13 +79,6 @@ fn lay_priced(cells: &mut Cells, side: u32, priced: Priced) {
     sides::lay_copies(cells, side, copies);
 }
 
-fn refusal_of(answer: PriceAnswer) -> u32 {
-    match answer {
-        PriceAnswer::Accepted(_) => 0,
-        PriceAnswer::Refused(number, _) => number,
-    }
-}
-
 // Both prices.
 pub(crate) fn price_both(
     cells: &mut Cells,
@@ -98,7 +91,5 @@ pub(crate) fn price_both(
     sides::clear(cells);
     lay_priced(cells, sides::RECORDS, priced);
     lay_priced(cells, sides::NUMBERS, other);
-    let answer = priced.answer;
-    let what = sides::difference(cells);
-    state::record(cells, state::PRICE, case, refusal_of(answer), what);
+    sides::judge(cells, state::PRICE, case);
 }

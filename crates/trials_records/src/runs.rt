@@ -7,8 +7,6 @@ use host_numbers::Ran;
 use protocol_types::Account;
 use protocol_types::Request;
 use trials_cells::cells::Cells;
-use trials_cells::cells::less;
-use trials_cells::cells::sum;
 use trials_cells::state;
 use trials_lending::REQUESTS;
 
@@ -103,22 +101,6 @@ fn lay_done(cells: &mut Cells, side: u32, done: Done) {
     sides::lay_tables(cells, side, tables);
 }
 
-fn cycles(account: Account) -> u32 {
-    sum(sum(account.fetch, account.write_back), account.update)
-}
-
-// What a run came to is noted.
-fn note(cells: &mut Cells, case: u32, refusal: u32, before: Account, after: Account) {
-    let what = sides::difference(cells);
-    state::record(cells, state::RUN, case, refusal, what);
-    state::add(
-        cells,
-        state::REQUESTS,
-        less(after.requests, before.requests),
-    );
-    state::add(cells, state::CYCLES, less(cycles(after), cycles(before)));
-}
-
 // Both runs: what the one over records leaves.
 pub(crate) fn run_both(
     cells: &mut Cells,
@@ -126,16 +108,14 @@ pub(crate) fn run_both(
     at: Series,
     requests: [Request; REQUESTS],
 ) -> Series {
-    let before = at.account;
     let done = by_records(at, requests);
     let other = by_numbers(at, requests);
     sides::clear(cells);
     lay_done(cells, sides::RECORDS, done);
     lay_done(cells, sides::NUMBERS, other);
+    sides::judge(cells, state::RUN, case);
     let ran = done.ran;
-    let answer = ran.answer;
     let account = ran.account;
-    note(cells, case, answer.refusal, before, account);
     let tables = done.tables;
     Series {
         tables: tables,

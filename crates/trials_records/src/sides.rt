@@ -6,6 +6,7 @@ use crate::board::Tables;
 use protocol_types::Account;
 use trials_cells::cells::Cells;
 use trials_cells::cells::differences;
+use trials_cells::cells::get;
 use trials_cells::cells::put;
 use trials_cells::cells::sum;
 use trials_cells::cells::wipe;
@@ -20,6 +21,8 @@ const CELLS: u32 = 128;
 
 // Where each part of a side begins: the refusal number, the place, the requests taken, the account, the cost, and the
 // tables.
+const REFUSAL: u32 = 0;
+
 const PLACE: u32 = 1;
 
 const TAKEN: u32 = 2;
@@ -35,17 +38,18 @@ const ROOM: u32 = 16;
 
 const WORDS: u32 = TABLES + 3 * ROOM;
 
-// The place in a list is in range, and small.
-fn put_number(cells: &mut Cells, first: u32, k: usize, x: u32) {
-    if k < 65536 {
-        put(cells, first, k as u32, x);
+// A place in a list as a number of 32 bits: those of these trials are small.
+fn small(place: usize) -> u32 {
+    if place < 65536 {
+        return place as u32;
     }
+    65536
 }
 
 fn lay(cells: &mut Cells, first: u32, list: &[u32]) {
     let mut k = 0;
     while k < list.len() {
-        put_number(cells, first, k, list[k]);
+        put(cells, first, small(k), list[k]);
         k += 1;
     }
 }
@@ -56,6 +60,7 @@ pub(crate) fn clear(cells: &mut Cells) {
     wipe(cells, NUMBERS, CELLS);
 }
 
+// The numbers of an answer; 0 stands where a kind has no such part.
 pub(crate) fn lay_answer(
     cells: &mut Cells,
     side: u32,
@@ -64,17 +69,10 @@ pub(crate) fn lay_answer(
     taken: usize,
     cost: u32,
 ) {
-    put(cells, side, 0, refusal);
-    put_place(cells, sum(side, PLACE), place);
-    put_place(cells, sum(side, TAKEN), taken);
+    put(cells, side, REFUSAL, refusal);
+    put(cells, side, PLACE, small(place));
+    put(cells, side, TAKEN, small(taken));
     put(cells, side, COST, cost);
-}
-
-// A place in a list, in one cell.
-fn put_place(cells: &mut Cells, at: u32, place: usize) {
-    if place < 65536 {
-        put(cells, at, 0, place as u32);
-    }
 }
 
 pub(crate) fn lay_account(cells: &mut Cells, side: u32, account: Account) {
@@ -124,8 +122,8 @@ fn differ(cells: &Cells, first: u32, n: u32) -> bool {
 }
 
 // What the sides differ in; 0 if in nothing.
-pub(crate) fn difference(cells: &Cells) -> u32 {
-    if differ(cells, 0, 1) {
+fn difference(cells: &Cells) -> u32 {
+    if differ(cells, REFUSAL, 1) {
         return state::REFUSAL;
     }
     if differ(cells, PLACE, 1) {
@@ -144,4 +142,11 @@ pub(crate) fn difference(cells: &Cells) -> u32 {
         return state::BUFFERS;
     }
     0
+}
+
+// A case of a kind ended as the sides say.
+pub(crate) fn judge(cells: &mut Cells, kind: u32, case: u32) {
+    let what = difference(cells);
+    let refusal = get(cells, RECORDS, REFUSAL);
+    state::record(cells, kind, case, refusal, what);
 }
