@@ -36,6 +36,7 @@ fn fresh(cells: &mut Cells) -> Series {
 
 // The session: two runs, the second on what the first left, and the schedule.
 fn chosen(cells: &mut Cells) {
+    state::begin(cells);
     let at = Series {
         tables: board::fresh_tables(),
         account: board::account_of(0),
@@ -47,6 +48,7 @@ fn chosen(cells: &mut Cells) {
 
 // The next run of a list, or the first of a new one.
 fn next_run(cells: &mut Cells, k: u32, last: Series) -> Series {
+    state::begin(cells);
     let requests = lists::any_requests(cells);
     if k % SERIES == 0 {
         let at = fresh(cells);
@@ -66,6 +68,7 @@ fn series(cells: &mut Cells, n: u32) {
 
 // In turn one entry of the schedule is another, or one request of the session.
 fn vary(cells: &mut Cells, k: u32) {
+    state::begin(cells);
     if k % 2 == 0 {
         let entries = lists::varied_schedule(cells);
         prices::price_both(cells, k, entries, lists::session());
