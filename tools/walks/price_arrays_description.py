@@ -20,8 +20,8 @@ price_arrays = Lending(
     root=ROOT, here=HERE, kit=KIT, name='price_arrays', entry=Entry(HERE, 'rival_pricer', 'price', 'Price'),
     params=[('setup', Setup)] + [(n, Slice('u32')) for n in BUFFERS] + [('entries', Array(ScheduleEntry, 20)), ('requests', Array(Request, 8))],
     refs=[], answer=PriceAnswer, result=PriceAnswer,
-    says='({answer} ≡ priced %s) × (rival {blocks} {held} {marks} ≡ priceTables %s)' % (whole, whole),
-    cites=[('protocol', 'Rival', ['rival']), ('protocol', 'Pricer', ['price as priced', 'priceTables'])])
+    says='({answer} ≡ priced %s) × (inNumbers {answer} ≡ priceNumbers %s) × (rival {blocks} {held} {marks} ≡ priceTables %s)' % (whole, whole, whole),
+    cites=[('protocol', 'Rival', ['rival']), ('protocol', 'Pricer', ['price as priced', 'priceTables', 'inNumbers', 'priceNumbers'])])
 
 
 def write(path, text):

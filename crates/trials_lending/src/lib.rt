@@ -10,7 +10,7 @@ ghost use mathlib.Core.Path.{_≡_};
 ghost use Rattle.protocol.specs.Lent.{before, after};
 ghost use Rattle.protocol.specs.Engines.{run as ran};
 ghost use Rattle.protocol.specs.Runs.{engine};
-ghost use Rattle.protocol.specs.Pricer.{price as priced, priceTables};
+ghost use Rattle.protocol.specs.Pricer.{price as priced, priceTables, inNumbers, priceNumbers};
 ghost use Rattle.rival_copies.specs.Copies.{rivalBefore, rivalAfter};
 ghost use Rattle.run_progress.specs.Progress.{outcome};
 
@@ -61,6 +61,7 @@ pub fn price_arrays(
     requests: [Request; REQUESTS],
 ) -> PriceAnswer
     ensures { λ r. ⌜ (r ≡ priced setup (rivalBefore blocks held marks) requests entries)
+        × (inNumbers r ≡ priceNumbers setup (rivalBefore blocks held marks) requests entries)
         × (rivalAfter blocks held marks ≡ priceTables setup (rivalBefore blocks held marks) requests entries) ⌝ }
 {
     rival_pricer::price(setup, blocks, held, marks, &entries, &requests)

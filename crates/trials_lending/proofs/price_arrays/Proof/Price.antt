@@ -44,7 +44,7 @@ use Rattle.protocol_types.specs.declared.PriceAnswer.{PriceAnswer}
 use Rattle.protocol_types.proofs.PriceAnswer as PriceAnswer-t
 use Rattle.protocol_types.proofs.PriceAnswer.Laws as PriceAnswer-l
 use Rattle.protocol.specs.Rival.{rival}
-use Rattle.protocol.specs.Pricer.{price as priced, priceTables}
+use Rattle.protocol.specs.Pricer.{price as priced, priceTables, inNumbers, priceNumbers}
 use Rattle.walks.proofs.Opening.{at-list, slice-at, Shared}
 use Rattle.walks.proofs.Lending.{array-shares, array-unshares}
 use Rattle.rival_pricer.proofs.price as price
@@ -95,7 +95,7 @@ module _ {M : Type 1} (𝓤 : URA M) (H : Heap 𝓤) (A : Atoms 𝓤) (mem : Mem
       pub blocks-len : length (z .1) ≡ length blocks
       pub held-len : length (z .2) ≡ length held
       pub marks-len : length (z .3) ≡ length marks
-      pub so : ((z .0) ≡ priced setup (rival blocks held marks) requests entries) × (rival (z .1) (z .2) (z .3) ≡ priceTables setup (rival blocks held marks) requests entries)
+      pub so : ((z .0) ≡ priced setup (rival blocks held marks) requests entries) × (inNumbers (z .0) ≡ priceNumbers setup (rival blocks held marks) requests entries) × (rival (z .1) (z .2) (z .3) ≡ priceTables setup (rival blocks held marks) requests entries)
 
     abbrev pub Left : End → Item 𝓤
     Left z = ‵ (flft κ-blocks q-blocks) ⊛ ‵ (flft κ-held q-held) ⊛ ‵ (flft κ-marks q-marks) ⊛ ‵ (finally u32 γ-blocks (z .1)) ⊛ ‵ (finally u32 γ-held (z .2)) ⊛ ‵ (finally u32 γ-marks (z .3))
@@ -107,8 +107,8 @@ module _ {M : Type 1} (𝓤 : URA M) (H : Heap 𝓤) (A : Atoms 𝓤) (mem : Mem
     after entries-count requests-count k w =
         qed W (raw (Called .post (to k) w) ∷ Out k ∷ []) ∵ updating ! $
         use1 W (later (some (λ (r : PriceAnswer). ((‵ (flft κ-blocks q-blocks) ⊛ ‵ (flft κ-held q-held) ⊛ ‵ (flft κ-marks q-marks) ⊛ ‵ (flft (k .0 ∷ []) fullShare) ⊛ ‵ (flft (k .2 ∷ []) fullShare) ⊛ ‵ ftrue) ⊛ ‵ (PriceAnswer-t.the-row .own r (w ∷ []))) ⊛ raw (ensured 𝓤 H A price.ended (price.clauses 𝓤 H A mem run″) (κ-blocks, (κ-held, (κ-marks, (k .0 ∷ [], (k .2 ∷ [], tt))))) (to k .0 .3) tt r)))) (id⊢ 𝓤 _) $ await ! tt $ pick ! (λ r.
-        split ! $ move ! (1 ∷ []) $ use1 W (some (λ (zs : Unit {0} × (List ℕ × (List ℕ × (List ℕ × (Unit {0} × (Unit {0} × (Unit {0}))))))). ‵ (lasts price.ended (κ-blocks, (κ-held, (κ-marks, (k .0 ∷ [], (k .2 ∷ [], tt))))) (to k .0 .3) zs) ⊛ raw (fact 𝓤 ((r ≡ priced setup (rival blocks held marks) requests entries) × (rival (zs .1 .0) (zs .1 .1 .0) (zs .1 .1 .1 .0) ≡ priceTables setup (rival blocks held marks) requests entries))))) (id⊢ 𝓤 _) $ pick ! (λ zs.
-        split ! $ move ! (1 ∷ []) $ heard ! ((r ≡ priced setup (rival blocks held marks) requests entries) × (rival (zs .1 .0) (zs .1 .1 .0) (zs .1 .1 .1 .0) ≡ priceTables setup (rival blocks held marks) requests entries)) (λ e.
+        split ! $ move ! (1 ∷ []) $ use1 W (some (λ (zs : Unit {0} × (List ℕ × (List ℕ × (List ℕ × (Unit {0} × (Unit {0} × (Unit {0}))))))). ‵ (lasts price.ended (κ-blocks, (κ-held, (κ-marks, (k .0 ∷ [], (k .2 ∷ [], tt))))) (to k .0 .3) zs) ⊛ raw (fact 𝓤 ((r ≡ priced setup (rival blocks held marks) requests entries) × (inNumbers r ≡ priceNumbers setup (rival blocks held marks) requests entries) × (rival (zs .1 .0) (zs .1 .1 .0) (zs .1 .1 .1 .0) ≡ priceTables setup (rival blocks held marks) requests entries))))) (id⊢ 𝓤 _) $ pick ! (λ zs.
+        split ! $ move ! (1 ∷ []) $ heard ! ((r ≡ priced setup (rival blocks held marks) requests entries) × (inNumbers r ≡ priceNumbers setup (rival blocks held marks) requests entries) × (rival (zs .1 .0) (zs .1 .1 .0) (zs .1 .1 .1 .0) ≡ priceTables setup (rival blocks held marks) requests entries)) (λ e.
         -- what is said of each last value
         fsplit ! $ drop ! $ fsplit ! $ fsplit ! $ move ! (2 ∷ []) $ fsplit ! $ fsplit ! $ move ! (2 ∷ []) $ fsplit ! $ fsplit ! $
         move ! (6 ∷ []) $ feqL ! (λ len-blocks. move ! (4 ∷ []) $ feqL ! (λ len-held. move ! (1 ∷ []) $ feqL ! (λ len-marks.
