@@ -26,7 +26,7 @@ fn write(processor: u32, variable: u32, value: u32) -> Request {
 
 // Two misses; two writes by broadcast, the second of which empties the payer's line; a write alone; a hit; a miss that
 // writes a marked block back; a read of what was written back.
-pub(crate) fn session() -> [Request; REQUESTS] {
+fn session() -> [Request; REQUESTS] {
     [
         read(0, 0),
         read(1, 1),
@@ -41,7 +41,7 @@ pub(crate) fn session() -> [Request; REQUESTS] {
 
 // After it: a miss and a write; a fetch of a marked block; a write by broadcast; a hit; a write alone; a request that is
 // refused, and two that are not reached.
-pub(crate) fn session_after() -> [Request; REQUESTS] {
+fn session_after() -> [Request; REQUESTS] {
     [
         write(2, 9, 21),
         read(1, 8),
@@ -55,7 +55,7 @@ pub(crate) fn session_after() -> [Request; REQUESTS] {
 }
 
 // A legal schedule for the session, with moves after its last completion.
-pub(crate) fn schedule() -> [Entry; ENTRIES] {
+fn schedule() -> [Entry; ENTRIES] {
     [
         Entry::Fetch(0, Block(0)),
         Entry::Complete,
@@ -90,7 +90,7 @@ fn mostly_below(cells: &mut Cells, n: u32) -> u32 {
     x
 }
 
-pub(crate) fn any_request(cells: &mut Cells) -> Request {
+fn any_request(cells: &mut Cells) -> Request {
     let i = mostly_below(cells, board::PROCESSORS);
     let v = mostly_below(cells, board::VARIABLES);
     let x = draw(cells, 1000);
@@ -101,7 +101,7 @@ pub(crate) fn any_request(cells: &mut Cells) -> Request {
     write(i, v, x)
 }
 
-pub(crate) fn any_entry(cells: &mut Cells) -> Entry {
+fn any_entry(cells: &mut Cells) -> Entry {
     let i = mostly_below(cells, board::PROCESSORS);
     let b = mostly_below(cells, board::BLOCKS);
     let kind = draw(cells, 5);
@@ -114,7 +114,7 @@ pub(crate) fn any_entry(cells: &mut Cells) -> Entry {
     }
 }
 
-pub(crate) fn any_requests(cells: &mut Cells) -> [Request; REQUESTS] {
+fn any_requests(cells: &mut Cells) -> [Request; REQUESTS] {
     [
         any_request(cells),
         any_request(cells),
@@ -127,24 +127,33 @@ pub(crate) fn any_requests(cells: &mut Cells) -> [Request; REQUESTS] {
     ]
 }
 
-// The session with one request replaced.
-pub(crate) fn varied_session(cells: &mut Cells) -> [Request; REQUESTS] {
+// The list of the k-th run: the session, what comes after it, and lists that are drawn.
+pub(crate) fn run_list(cells: &mut Cells, k: u32) -> [Request; REQUESTS] {
+    match k {
+        0 => session(),
+        1 => session_after(),
+        _ => any_requests(cells),
+    }
+}
+
+// The list of the k-th price: the session, from the first on with one request replaced in every second.
+pub(crate) fn price_list(cells: &mut Cells, k: u32) -> [Request; REQUESTS] {
     let mut list = session();
     let request = any_request(cells);
-    let k = draw(cells, 8) as usize;
-    if k < REQUESTS {
-        list[k] = request;
+    let i = draw(cells, 8) as usize;
+    if k % 2 == 1 && i < REQUESTS {
+        list[i] = request;
     }
     list
 }
 
-// The schedule with one entry replaced.
-pub(crate) fn varied_schedule(cells: &mut Cells) -> [Entry; ENTRIES] {
+// The schedule of the k-th price: the legal one first; from the second on, one entry is replaced in every second.
+pub(crate) fn price_schedule(cells: &mut Cells, k: u32) -> [Entry; ENTRIES] {
     let mut list = schedule();
     let entry = any_entry(cells);
-    let k = draw(cells, 20) as usize;
-    if k < ENTRIES {
-        list[k] = entry;
+    let i = draw(cells, 20) as usize;
+    if k > 0 && k % 2 == 0 && i < ENTRIES {
+        list[i] = entry;
     }
     list
 }

@@ -8,6 +8,7 @@ mod runs;
 mod sides;
 
 use crate::runs::Series;
+use protocol_types::Account;
 use protocol_types::REQUEST_LIMIT;
 use trials_cells::cells::Cells;
 use trials_cells::cells::less;
@@ -20,45 +21,41 @@ const RUNS: u32 = 4000;
 
 const PRICES: u32 = 4000;
 
-// Runs of a list before the tables and the account are fresh again.
+// Runs before the tables and the account are fresh again.
 const SERIES: u32 = 16;
 
-// Empty caches, and an account that some runs fill.
-fn fresh(cells: &mut Cells) -> Series {
-    let tables = board::fresh_tables();
+// The account of the k-th run, where a list begins: a fresh one, or one that some runs fill.
+fn first_account(cells: &mut Cells, k: u32) -> Account {
     let left = draw(cells, 400);
-    let account = board::account_of(less(REQUEST_LIMIT, left));
+    if k == 0 {
+        return board::account_of(0);
+    }
+    board::account_of(less(REQUEST_LIMIT, left))
+}
+
+// What the k-th run goes on over: what the last one left, or empty caches.
+fn before_run(cells: &mut Cells, k: u32, last: Series) -> Series {
+    if k % SERIES != 0 {
+        return last;
+    }
     Series {
-        tables: tables,
-        account: account,
+        tables: board::fresh_tables(),
+        account: first_account(cells, k),
     }
 }
 
-// The session: two runs, the second on what the first left, and the schedule.
-fn chosen(cells: &mut Cells) {
+fn next_run(cells: &mut Cells, k: u32, last: Series) -> Series {
     state::begin(cells);
-    let at = Series {
+    let at = before_run(cells, k, last);
+    let requests = lists::run_list(cells, k);
+    runs::run_both(cells, k, at, requests)
+}
+
+fn all_runs(cells: &mut Cells, n: u32) {
+    let mut at = Series {
         tables: board::fresh_tables(),
         account: board::account_of(0),
     };
-    let after = runs::run_both(cells, 0, at, lists::session());
-    runs::run_both(cells, 1, after, lists::session_after());
-    prices::price_both(cells, 0, lists::schedule(), lists::session());
-}
-
-// The next run of a list, or the first of a new one.
-fn next_run(cells: &mut Cells, k: u32, last: Series) -> Series {
-    state::begin(cells);
-    let requests = lists::any_requests(cells);
-    if k % SERIES == 0 {
-        let at = fresh(cells);
-        return runs::run_both(cells, k, at, requests);
-    }
-    runs::run_both(cells, k, last, requests)
-}
-
-fn series(cells: &mut Cells, n: u32) {
-    let mut at = fresh(cells);
     let mut k = 0;
     while k < n {
         at = next_run(cells, k, at);
@@ -66,22 +63,17 @@ fn series(cells: &mut Cells, n: u32) {
     }
 }
 
-// In turn one entry of the schedule is another, or one request of the session.
-fn vary(cells: &mut Cells, k: u32) {
+fn next_price(cells: &mut Cells, k: u32) {
     state::begin(cells);
-    if k % 2 == 0 {
-        let entries = lists::varied_schedule(cells);
-        prices::price_both(cells, k, entries, lists::session());
-        return;
-    }
-    let requests = lists::varied_session(cells);
-    prices::price_both(cells, k, lists::schedule(), requests);
+    let entries = lists::price_schedule(cells, k);
+    let requests = lists::price_list(cells, k);
+    prices::price_both(cells, k, entries, requests);
 }
 
-fn schedules(cells: &mut Cells, n: u32) {
+fn all_prices(cells: &mut Cells, n: u32) {
     let mut k = 0;
     while k < n {
-        vary(cells, k);
+        next_price(cells, k);
         k += 1;
     }
 }
@@ -95,8 +87,7 @@ fn print_all(cells: &Cells) {
 fn main() {
     let mut cells = [0u32; trials_cells::cells::SIZE];
     state::set_seed(&mut cells, FIRST_SEED);
-    chosen(&mut cells);
-    series(&mut cells, RUNS);
-    schedules(&mut cells, PRICES);
+    all_runs(&mut cells, RUNS);
+    all_prices(&mut cells, PRICES);
     print_all(&cells);
 }

@@ -6,6 +6,7 @@ use crate::sides;
 use host_numbers::Ran;
 use protocol_types::Account;
 use protocol_types::Request;
+use protocol_types::RunAnswer;
 use trials_cells::cells::Cells;
 use trials_cells::state;
 use trials_lending::REQUESTS;
@@ -16,10 +17,23 @@ pub struct Series {
     pub account: Account,
 }
 
-// What a run answered, and the tables that it left.
+// What a run answered, and what it left.
 pub struct Done {
-    pub ran: Ran,
-    pub tables: Tables,
+    pub answer: RunAnswer,
+    pub at: Series,
+}
+
+fn done_of(ran: Ran, tables: Tables) -> Done {
+    let answer = ran.answer;
+    let account = ran.account;
+    let at = Series {
+        tables: tables,
+        account: account,
+    };
+    Done {
+        answer: answer,
+        at: at,
+    }
 }
 
 fn by_records(at: Series, requests: [Request; REQUESTS]) -> Done {
@@ -50,10 +64,7 @@ fn by_records(at: Series, requests: [Request; REQUESTS]) -> Done {
         memory: memory,
         values: values,
     };
-    Done {
-        ran: ran,
-        tables: left,
-    }
+    done_of(ran, left)
 }
 
 fn by_numbers(at: Series, requests: [Request; REQUESTS]) -> Done {
@@ -85,17 +96,14 @@ fn by_numbers(at: Series, requests: [Request; REQUESTS]) -> Done {
         memory: memory,
         values: values,
     };
-    Done {
-        ran: ran,
-        tables: left,
-    }
+    done_of(ran, left)
 }
 
 fn lay_done(cells: &mut Cells, side: u32, done: Done) {
-    let ran = done.ran;
-    let answer = ran.answer;
-    let account = ran.account;
-    let tables = done.tables;
+    let answer = done.answer;
+    let at = done.at;
+    let account = at.account;
+    let tables = at.tables;
     sides::lay_answer(cells, side, answer.refusal, answer.place, answer.taken, 0);
     sides::lay_account(cells, side, account);
     sides::lay_tables(cells, side, tables);
@@ -108,17 +116,11 @@ pub(crate) fn run_both(
     at: Series,
     requests: [Request; REQUESTS],
 ) -> Series {
-    let done = by_records(at, requests);
-    let other = by_numbers(at, requests);
     sides::clear(cells);
-    lay_done(cells, sides::RECORDS, done);
+    let other = by_numbers(at, requests);
     lay_done(cells, sides::NUMBERS, other);
+    let done = by_records(at, requests);
+    lay_done(cells, sides::RECORDS, done);
     sides::judge(cells, state::RUN, case);
-    let ran = done.ran;
-    let account = ran.account;
-    let tables = done.tables;
-    Series {
-        tables: tables,
-        account: account,
-    }
+    done.at
 }

@@ -1,8 +1,8 @@
 -- It promises nothing but to be safe and to end: the sum fits, and the loop comes nearer to its end.
 use borrow.Author.Needs.{needs}
 use Prim.Native.Nat.{_≤_, _-_}
-use Rattle.trials_records.proofs.schedules.Statement.{statement}
-use Rattle.trials_records.proofs.schedules.Tie as tie
+use Rattle.trials_records.proofs.all_prices.Statement.{statement}
+use Rattle.trials_records.proofs.all_prices.Tie as tie
 
 abbrev Inv-loop : tie.InvT-loop
 Inv-loop cells₀ n k₀ cells k = 0 ≤ k
@@ -10,7 +10,7 @@ Inv-loop cells₀ n k₀ cells k = 0 ≤ k
 abbrev μ-loop : tie.MeasureT-loop
 μ-loop cells₀ n k₀ cells k = n - k
 
-pub schedules-spec : {M : Type 1} → statement M
-schedules-spec =
+pub all-prices-spec : {M : Type 1} → statement M
+all-prices-spec =
     tie.close
     (tie.spec Inv-loop μ-loop (λ c. search needs) (λ c κs. search needs) (λ c. search needs) (λ c. search needs) (λ c. search needs) (λ c. search needs))
