@@ -1,6 +1,7 @@
 // A schedule priced over records, and the same over numbers.
 use crate::board;
 use crate::board::Copies;
+use crate::lists;
 use crate::numbers;
 use crate::sides;
 use protocol_types::Entry;
@@ -79,17 +80,15 @@ fn lay_priced(cells: &mut Cells, side: u32, priced: Priced) {
     sides::lay_copies(cells, side, copies);
 }
 
-// Both prices.
-pub(crate) fn price_both(
-    cells: &mut Cells,
-    case: u32,
-    entries: [Entry; ENTRIES],
-    requests: [Request; REQUESTS],
-) {
-    let priced = by_records(entries, requests);
-    let other = by_numbers(entries, requests);
+// The k-th price, both ways.
+pub(crate) fn price_case(cells: &mut Cells, k: u32) {
+    state::begin(cells);
+    let entries = lists::price_schedule(cells, k);
+    let requests = lists::price_list(cells, k);
     sides::clear(cells);
-    lay_priced(cells, sides::RECORDS, priced);
+    let other = by_numbers(entries, requests);
     lay_priced(cells, sides::NUMBERS, other);
-    sides::judge(cells, state::PRICE, case);
+    let priced = by_records(entries, requests);
+    lay_priced(cells, sides::RECORDS, priced);
+    sides::judge(cells, state::PRICE, k);
 }

@@ -1,17 +1,24 @@
 // A run over records and the same run over numbers.
 use crate::board;
 use crate::board::Tables;
+use crate::lists;
 use crate::numbers;
 use crate::sides;
 use host_numbers::Ran;
 use protocol_types::Account;
+use protocol_types::REQUEST_LIMIT;
 use protocol_types::Request;
 use protocol_types::RunAnswer;
 use trials_cells::cells::Cells;
+use trials_cells::cells::less;
 use trials_cells::state;
+use trials_cells::state::draw;
 use trials_lending::REQUESTS;
 
-// The tables that a list of runs goes on over, and the account.
+// Runs before the tables and the account are fresh again.
+const SERIES: u32 = 16;
+
+// The tables that runs go on over, and the account.
 pub struct Series {
     pub tables: Tables,
     pub account: Account,
@@ -109,18 +116,36 @@ fn lay_done(cells: &mut Cells, side: u32, done: Done) {
     sides::lay_tables(cells, side, tables);
 }
 
-// Both runs: what the one over records leaves.
-pub(crate) fn run_both(
-    cells: &mut Cells,
-    case: u32,
-    at: Series,
-    requests: [Request; REQUESTS],
-) -> Series {
+// The account of the k-th run, where a list begins: a fresh one, or one that some runs fill.
+fn first_account(cells: &mut Cells, k: u32) -> Account {
+    let left = draw(cells, 400);
+    if k == 0 {
+        return board::account_of(0);
+    }
+    board::account_of(less(REQUEST_LIMIT, left))
+}
+
+// What the k-th run goes on over: what the last one left, or empty caches.
+fn before_run(cells: &mut Cells, k: u32, last: Series) -> Series {
+    if k % SERIES != 0 {
+        return last;
+    }
+    Series {
+        tables: board::fresh_tables(),
+        account: first_account(cells, k),
+    }
+}
+
+// The k-th run, both ways: what the one over records leaves.
+pub(crate) fn run_case(cells: &mut Cells, k: u32, last: Series) -> Series {
+    state::begin(cells);
+    let at = before_run(cells, k, last);
+    let requests = lists::run_list(cells, k);
     sides::clear(cells);
     let other = by_numbers(at, requests);
     lay_done(cells, sides::NUMBERS, other);
     let done = by_records(at, requests);
     lay_done(cells, sides::RECORDS, done);
-    sides::judge(cells, state::RUN, case);
+    sides::judge(cells, state::RUN, k);
     done.at
 }
