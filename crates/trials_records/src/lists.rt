@@ -136,22 +136,22 @@ pub(crate) fn run_list(cells: &mut Cells, k: u32) -> [Request; REQUESTS] {
     }
 }
 
-// The list of the k-th price: the session, from the first on with one request replaced in every second.
+// The list of the k-th price: the session, with one request replaced in every second.
 pub(crate) fn price_list(cells: &mut Cells, k: u32) -> [Request; REQUESTS] {
     let mut list = session();
     let request = any_request(cells);
-    let i = draw(cells, 8) as usize;
+    let i = draw(cells, REQUESTS as u32) as usize;
     if k % 2 == 1 && i < REQUESTS {
         list[i] = request;
     }
     list
 }
 
-// The schedule of the k-th price: the legal one first; from the second on, one entry is replaced in every second.
+// The schedule of the k-th price: the legal one, with one entry replaced in every second but the first.
 pub(crate) fn price_schedule(cells: &mut Cells, k: u32) -> [Entry; ENTRIES] {
     let mut list = schedule();
     let entry = any_entry(cells);
-    let i = draw(cells, 20) as usize;
+    let i = draw(cells, ENTRIES as u32) as usize;
     if k > 0 && k % 2 == 0 && i < ENTRIES {
         list[i] = entry;
     }

@@ -41,6 +41,8 @@ fn all_prices(cells: &mut Cells, n: u32) {
 fn print_all(cells: &Cells) {
     state::print_kind(cells, state::RUN, b"run");
     state::print_kind(cells, state::PRICE, b"price");
+    state::print_cell(cells, b"requests taken in runs ", state::REQUESTS);
+    state::print_cell(cells, b"cycles of legal schedules ", state::CYCLES);
     state::print_cell(cells, b"differences ", state::DIFFERENCES);
 }
 

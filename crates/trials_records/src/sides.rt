@@ -144,9 +144,13 @@ fn difference(cells: &Cells) -> u32 {
     0
 }
 
-// A case of a kind ended as the sides say.
+// A case of a kind ended as the sides say. The requests taken and the cost are added up, of the entry over records.
 pub(crate) fn judge(cells: &mut Cells, kind: u32, case: u32) {
     let what = difference(cells);
     let refusal = get(cells, RECORDS, REFUSAL);
+    let taken = get(cells, RECORDS, TAKEN);
+    let cost = get(cells, RECORDS, COST);
     state::record(cells, kind, case, refusal, what);
+    state::add(cells, state::REQUESTS, taken);
+    state::add(cells, state::CYCLES, cost);
 }
