@@ -376,21 +376,6 @@ class Lending:
         b += 'frame ! $ %sdone !' % R.owned(out, 'result-is')
         return t + I + 'finish =\n' + I + '    qed W (%s z ∷ []) ∵ ' % self.app('Left') + b + '\n\n'
 
-    def operand(self, cx, o):
-        if o[0] == 'int':
-            return '(lit ! tt)'
-        local, steps = place(o[1])
-        if not steps:
-            return '(load ! (from ! (stop !)) (look ! %d refl))' % cx.at('_%d' % local)
-        assert [s for s, _ in steps] == ['field'], o
-        return '(load ! (from ! (fld ! refl (stop !))) (look-in ! %d (sub ! %s refl (whole !))))' % (cx.at('_%d' % local), steps[0][1])
-
-    def operands(self, cx, os):
-        r = '(no-more !)'
-        for o in reversed(os):
-            r = '(and-then ! %s %s)' % (self.operand(cx, o), r)
-        return r
-
     def assign(self, cx, st):
         d, path = place(st[1])
         assert not path, st
@@ -402,11 +387,11 @@ class Lending:
             source = '(fld ! refl (hop ! (look-in ! %d (sub ! 0 refl (whole !))) (stop !)))' % cx.at('_%d' % local) if steps else '(stop !)'
             return 'assigns ! (addr ! (from ! %s)) %s(tt, tt)) $ ' % (source, to)
         if rv[0] == 'aggregate' and d == 0:
-            return 'assigns ! (agg ! %s) %s%s) $ ' % (self.operands(cx, items(rv[1])), to, self.result.typed(self.returned(), '_', 'made-is'))
+            return 'assigns ! (agg ! %s) %s%s) $ ' % (operands(cx, items(rv[1])), to, self.result.typed(self.returned(), '_', 'made-is'))
         if rv[0] == 'aggregate':
             a, b = items(rv[1])
             fits = 'lit< tt' if b[0] == 'int' else 'r-%s .0' % self.param[place(b[1])[0]]
-            return 'assigns ! (agg ! %s) %s(tt, (tt, (record { fits = %s }, tt)))) $ ' % (self.operands(cx, [a, b]), to, fits)
+            return 'assigns ! (agg ! %s) %s(tt, (tt, (record { fits = %s }, tt)))) $ ' % (operands(cx, [a, b]), to, fits)
         assert rv[0] == 'rvOpd', st
         local, steps = place(rv[1][1])
         if local in self.param:
@@ -415,7 +400,7 @@ class Lending:
         else:
             n = [n for n in self.refs if self.copy[n] == local][0]
             typed = self.kind[n].typed(self.final(n), '_', '(told .%s-is)' % n)
-        return 'assigns ! (of-opd ! %s) %s%s) $ ' % (self.operand(cx, rv[1]), to, typed)
+        return 'assigns ! (of-opd ! %s) %s%s) $ ' % (operand(cx, rv[1]), to, typed)
 
     def mir(self, n):
         k = self.kind[n]
@@ -458,7 +443,7 @@ class Lending:
             t += 'use2 W (later (some (λ (k : %s). raw (%s) ⊛ %s k))) (%s %s) $ await ! tt $ pick ! (λ k. split ! $\n' % (
                 self.app('Key'), pre, self.app('Out'), self.app('before'), ' '.join(n + '-is' for n, k in self.plain))
             cx.front(2, ['pre', 'out'])
-            t += I + 'calls-at ! (fmOf 𝓤 H (W .laws) 𝓣) (%s.Called 𝓤 H A mem run″) known-%s (%s k) %s (λ w.\n' % (self.mod, self.G, self.app('to'), self.operands(cx, items(st[2])))
+            t += I + 'calls-at ! (fmOf 𝓤 H (W .laws) 𝓣) (%s.Called 𝓤 H A mem run″) known-%s (%s k) %s (λ w.\n' % (self.mod, self.G, self.app('to'), operands(cx, items(st[2])))
             cx.front(1, ['call'])
             t += I + cx.move('call', 'out') + 'use2 W (later (some (λ (z : %s). given (%s w z) (%s z ⊛ %s z)))) (%s %s k w) $ await ! tt $ pick ! (λ z. learn ! (λ told. split ! $ ' % (
                 self.app('End'), self.app('Told'), self.app('Left'), self.app('Cells-after'), self.app('after'), ' '.join('(%s-is .1 .0 .1)' % n for n in self.arrays))

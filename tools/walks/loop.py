@@ -118,24 +118,7 @@ class Loop:
     def pos(self, cx, local):
         return cx.at('_%d' % local)
 
-    # ---- operands and assignments
-    def operand(self, cx, o):
-        assert o[0] == 'copy', o
-        local, steps = place(o[1])
-        if not steps:
-            return '(load ! (from ! (stop !)) (look ! %d refl))' % self.pos(cx, local)
-        assert all(s == 'field' for s, _ in steps), o
-        inside, path = '(whole !)', '(stop !)'
-        for _, k in steps:
-            inside, path = '(sub ! %s refl %s)' % (k, inside), '(fld ! refl %s)' % path
-        return '(load ! (from ! %s) (look-in ! %d %s))' % (path, self.pos(cx, local), inside)
-
-    def operands(self, cx, os):
-        r = '(no-more !)'
-        for o in reversed(os):
-            r = '(and-then ! %s %s)' % (self.operand(cx, o), r)
-        return r
-
+    # ---- assignments
     def field_is(self, x, number):
         P = self.carried
         return '(%s.owed %s %s _ (%s .is)%s .0)' % (P.LL, P.tl, self.carried_at(x), x, ' .1' * int(number))
@@ -157,16 +140,16 @@ class Loop:
         if rv[0] == 'aggregate':
             a, b = items(rv[1])
             n = self.fat[d] = self.param[place(b[1])[0]]
-            return 'assigns ! (agg ! %s) %s(tt, (tt, (record { fits = r-%s .0 }, tt)))) $ ' % (self.operands(cx, [a, b]), to, n), 0
+            return 'assigns ! (agg ! %s) %s(tt, (tt, (record { fits = r-%s .0 }, tt)))) $ ' % (operands(cx, [a, b]), to, n), 0
         if rv[0] == 'op2' and rv[1] == 'offset':
             n = self.ptrs[d] = self.param[place(rv[2][1])[0]]
-            t = 'assigns ! (bin ! %s %s tt) %s(tt, tt)) $ ' % (self.operand(cx, rv[2]), self.operand(cx, rv[3]), to)
+            t = 'assigns ! (bin ! %s %s tt) %s(tt, tt)) $ ' % (operand(cx, rv[2]), operand(cx, rv[3]), to)
             t += '\n' + ind + 'rewrite ! %d (λ (p : ℕ). ‵ (fat fullShare tyPtr %s 0 (vptr b-%s p))) (sym (place-is %s o-%s %s)) refl $ ' % (
                 self.pos(cx, d), block(d), n, self.size[n], n, self.arm['index'])
             return t, 0
         if rv[0] == 'op2':
             assert rv[1][0] == 'mul', st
-            return 'assigns ! (bin ! %s (lit ! tt) (record { fits = small })) %s(tt, record { fits = small })) $ ' % (self.operand(cx, rv[2]), to), 0
+            return 'assigns ! (bin ! %s (lit ! tt) (record { fits = small })) %s(tt, record { fits = small })) $ ' % (operand(cx, rv[2]), to), 0
         assert rv[0] == 'rvOpd', st
         local, steps = place(rv[1][1])
         if steps and steps[0][0] == 'deref' and local in self.param:  # the lent struct is read
@@ -176,10 +159,10 @@ class Loop:
         if steps and steps[0][0] == 'deref':
             return self.element(cx, local, d, ind), 2
         if local in self.param:  # a length
-            return 'assigns ! (of-opd ! %s) %s(tt, record { fits = r-%s .0 })) $ ' % (self.operand(cx, rv[1]), to, self.param[local]), 0
+            return 'assigns ! (of-opd ! %s) %s(tt, record { fits = r-%s .0 })) $ ' % (operand(cx, rv[1]), to, self.param[local]), 0
         assert local == self.p, st
         typed = self.result.typed(self.answer_of(x + ' .at'), '_', self.field_is(x, steps[0][1])) if d == 0 else '(tt, tt)'
-        return 'assigns ! (of-opd ! %s) %s%s) $ ' % (self.operand(cx, rv[1]), to, typed), 0
+        return 'assigns ! (of-opd ! %s) %s%s) $ ' % (operand(cx, rv[1]), to, typed), 0
 
     def element(self, cx, local, d, ind):
         """An element of a list of records is copied out."""
@@ -446,7 +429,7 @@ class Loop:
 
         t = I + 'use0 W (raw (%s.Called 𝓤 H A mem run″ .pre (%s))) (%s (x .is)%s) $\n' % (c.mod, app('to'), app('before'), ' ' + self.counting['made_ready'] if c.requires else '')
         cx.items.insert(0, 'pre')
-        t += I + 'calls-at ! (fmOf 𝓤 H (W .laws) 𝓣) (%s.Called 𝓤 H A mem run″) known-%s (%s) %s (λ w.\n' % (c.mod, c.F, app('to'), self.operands(cx, items(st[2])))
+        t += I + 'calls-at ! (fmOf 𝓤 H (W .laws) 𝓣) (%s.Called 𝓤 H A mem run″) known-%s (%s) %s (λ w.\n' % (c.mod, c.F, app('to'), operands(cx, items(st[2])))
         t += I + 'use1 W (later (given (%s w) (‵ ftrue))) (%s w) $ await ! tt $ learn ! (λ made. drop ! $ ' % (app('Told'), app('after'))
         cx.front(1, [])
         growth = self.counting['growth']
@@ -467,7 +450,7 @@ class Loop:
         t = I + cx.move('acc', 'ro') + 'use2 W (later (‵ (MutRef (named %d) κ-%s %s .own %s (%s ∷ [])) ⊛ ‵ (flft κ-%s q-%s))) (ref-closes %s %s 𝓤 H A W %s (named %d) κ-%s q-%s γ-%s %s %s %s %s-is′) $ await ! tt $ use1 W (raw (%s.Called 𝓤 H A mem run″ .pre (%s))) (%s %s %s) $\n' % (
             self.life[n], n, k.row, self.argument(n), self.pointer(n), n, n, k.row, at(n), k.makes(), self.life[n], n, n, n, n, n, k.vals(n), n, c.mod, app('to'), app('before'), '(made .is)' if self.made else 'growth-is', counting['room'])
         cx.front(2, ['pre'])
-        t += I + 'calls-at ! (fmOf 𝓤 H (W .laws) 𝓣) (%s.Called 𝓤 H A mem run″) known-%s (%s) %s (λ u.\n' % (c.mod, c.F, app('to'), self.operands(cx, items(st[2])))
+        t += I + 'calls-at ! (fmOf 𝓤 H (W .laws) 𝓣) (%s.Called 𝓤 H A mem run″) known-%s (%s) %s (λ u.\n' % (c.mod, c.F, app('to'), operands(cx, items(st[2])))
         t += I + 'use1 W (later (given (u ≡ vunit) (%s ⊛ %s))) (%s u) $ await ! tt $ learn ! (λ unit-is. split ! $ ' % (self.items['res'].replace('(s .', '(x .at .'), self.items['toka'], app('after'))
         cx.front(1, ['res', 'toka'])
         t += 'land ! (from ! (stop !)) (init ! %d refl (subst (λ (y : Val). T (hasTy tyUnit y) × WT y) (sym unit-is) (tt, tt))) $\n' % self.pos(cx, d)
@@ -479,7 +462,7 @@ class Loop:
         t = ind + 'use1 W (later (some (λ (k : %s). raw (%s.Called 𝓤 H A mem run″ .pre (%s k)) ⊛ %s k))) (%s %s %s) $ await ! tt $ pick ! (λ k. split ! $\n' % (
             self.app(c, 'Key', args), c.mod, self.app(c, 'to', args), self.app(c, 'Out', args), self.app(c, 'before', args), ' '.join(hyps), ' '.join(rooms))
         cx.front(1, ['pre', 'out'])
-        t += ind + '%s ! (fmOf 𝓤 H (W .laws) 𝓣) (%s.Called 𝓤 H A mem run″) known-%s (%s k) %s (λ w.\n' % (rule, c.mod, c.F, self.app(c, 'to', args), self.operands(cx, items(st[2])))
+        t += ind + '%s ! (fmOf 𝓤 H (W .laws) 𝓣) (%s.Called 𝓤 H A mem run″) known-%s (%s k) %s (λ w.\n' % (rule, c.mod, c.F, self.app(c, 'to', args), operands(cx, items(st[2])))
         t += ind + 'use2 W (later (given (%s w) (Held %s))) (%s k w) $ await ! tt $ learn ! (λ told.\n' % (self.app(c, 'Told', args), after, self.app(c, 'after', args))
         cx.front(2, ['held'])
         return t
@@ -545,7 +528,7 @@ class Loop:
         t += head + self.tested(cx, 'go') + I + 'stays ! (load ! (from ! (stop !)) (look ! %d refl)) $\n' % self.pos(cx, self.test)
         for st in rest[:-1]:
             t += I + self.assign(cx, st, 'x', I)[0] + '\n'
-        return t + I + 'branches ! %s (λ h. %s x go (holds (%s) h)) (λ h. %s x go (fails (%s) h))\n\n' % (self.operand(cx, cond[1]), self.arms[0]['name'], flag, self.arms[1]['name'], flag)
+        return t + I + 'branches ! %s (λ h. %s x go (holds (%s) h)) (λ h. %s x go (fails (%s) h))\n\n' % (operand(cx, cond[1]), self.arms[0]['name'], flag, self.arms[1]['name'], flag)
 
     def walk(self):
         F, I, S = self.F, ' ' * 8, self.stage

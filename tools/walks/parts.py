@@ -1,5 +1,7 @@
-"""What the texts of all walks are put together from: types, contexts, imports."""
+"""What the texts of all walks are put together from: types, contexts, operands, imports, and the end of the file."""
 import re
+
+from mir import place
 
 SUBSCRIPTS = '₀₁₂₃₄₅₆₇₈₉'
 NUMBERS = {'u8': 'w8', 'u16': 'w16', 'u32': 'w32', 'u64': 'w64', 'usize': 'w64'}
@@ -169,6 +171,29 @@ class Context:
         t = self.move(*labels) + ('group ! %d $ ' % len(labels) if len(labels) > 1 else '')
         self.front(len(labels), [new])
         return t
+
+
+# ---- operands of the MIR
+
+def operand(cx, o):
+    if o[0] == 'int':
+        return '(lit ! tt)'
+    assert o[0] == 'copy', o
+    local, steps = place(o[1])
+    if not steps:
+        return '(load ! (from ! (stop !)) (look ! %d refl))' % cx.at('_%d' % local)
+    assert all(s == 'field' for s, _ in steps), o
+    inside, path = '(whole !)', '(stop !)'
+    for _, k in steps:
+        inside, path = '(sub ! %s refl %s)' % (k, inside), '(fld ! refl %s)' % path
+    return '(load ! (from ! %s) (look-in ! %d %s))' % (path, cx.at('_%d' % local), inside)
+
+
+def operands(cx, os):
+    r = '(no-more !)'
+    for o in reversed(os):
+        r = '(and-then ! %s %s)' % (operand(cx, o), r)
+    return r
 
 
 # ---- imports: all that a walk may cite; `prune` leaves what it does
