@@ -11,11 +11,11 @@ use Rattle.trace_lines.specs.Trace.{Ended}
 
 -- it counts the changes of the exported functions' signatures and meanings, from 1 on
 abbrev pub hostVersion : ℕ
-hostVersion = 1
+hostVersion = 2
 
--- n processors, l lines in each cache, p words in a block, m blocks
-abbrev pub setupOf : ℕ → ℕ → ℕ → ℕ → Setup
-setupOf n l p m = record { processors = n; lines = l; words = p; blocks = m }
+-- n processors, l lines in each cache, p words in a block, m blocks, fetch price f, write-back price g
+abbrev pub setupOf : ℕ → ℕ → ℕ → ℕ → ℕ → ℕ → Setup
+setupOf n l p m f g = record { processors = n; lines = l; words = p; blocks = m; «fetch_price» = f; «write_back_price» = g }
 
 -- the account of four lent numbers, as they came in and as they are left
 abbrev pub LentNumber : Type 0

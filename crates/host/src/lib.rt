@@ -16,7 +16,7 @@ ghost use Rattle.host_numbers.specs.Numbers.{runNumbers, priceInNumbers, priceT
 ghost use Rattle.host.specs.Host.{hostVersion, setupOf, accountBefore, accountAfter, blockNumbered, reportOf};
 
 // It counts the changes of these functions' signatures and meanings.
-const VERSION: u32 = 1;
+const VERSION: u32 = 2;
 
 // The version of these functions, by which a host can tell whether it was built for them.
 #[no_mangle]
@@ -26,15 +26,24 @@ pub extern "C" fn cuzkelor_version() -> u32
     VERSION
 }
 
-// A setup by its four numbers.
-fn setup_of(processors: u32, lines: u32, block_words: u32, block_count: u32) -> Setup
-    ensures { λ r. ⌜ r ≡ setupOf processors lines «block_words» «block_count» ⌝ }
+// A setup by its six numbers.
+fn setup_of(
+    processors: u32,
+    lines: u32,
+    block_words: u32,
+    block_count: u32,
+    fetch_price: u32,
+    write_back_price: u32,
+) -> Setup
+    ensures { λ r. ⌜ r ≡ setupOf processors lines «block_words» «block_count» «fetch_price» «write_back_price» ⌝ }
 {
     Setup {
         processors: processors,
         lines: lines,
         words: block_words,
         blocks: block_count,
+        fetch_price: fetch_price,
+        write_back_price: write_back_price,
     }
 }
 
@@ -45,17 +54,19 @@ pub extern "C" fn cuzkelor_start(
     lines: u32,
     block_words: u32,
     block_count: u32,
+    fetch_price: u32,
+    write_back_price: u32,
     blocks: &mut [u32],
     counters: &mut [u32],
     marks: &mut [u32],
     words: &mut [u32],
     memory: &mut [u32],
 ) -> u32
-    ensures { λ r. ⌜ r ≡ startRefusal (setupOf processors lines «block_words» «block_count») (before blocks counters marks words memory) ⌝ }
+    ensures { λ r. ⌜ r ≡ startRefusal (setupOf processors lines «block_words» «block_count» «fetch_price» «write_back_price») (before blocks counters marks words memory) ⌝ }
     ensures { λ _. ⌜ after blocks counters marks words memory
-        ≡ started (setupOf processors lines «block_words» «block_count») (before blocks counters marks words memory) ⌝ }
+        ≡ started (setupOf processors lines «block_words» «block_count» «fetch_price» «write_back_price») (before blocks counters marks words memory) ⌝ }
 {
-    let setup = setup_of(processors, lines, block_words, block_count);
+    let setup = setup_of(processors, lines, block_words, block_count, fetch_price, write_back_price);
     engine_tables::start(setup, blocks, counters, marks, words, memory)
 }
 
@@ -66,16 +77,18 @@ pub extern "C" fn cuzkelor_look_length(
     lines: u32,
     block_words: u32,
     block_count: u32,
+    fetch_price: u32,
+    write_back_price: u32,
     blocks: &[u32],
     counters: &[u32],
     words: &[u32],
     processor: u32,
     block: u32,
 ) -> usize
-    ensures { λ r. ⌜ r ≡ lookLength (setupOf processors lines «block_words» «block_count»)
+    ensures { λ r. ⌜ r ≡ lookLength (setupOf processors lines «block_words» «block_count» «fetch_price» «write_back_price»)
         (now (blocks .entry)) (now (counters .entry)) (now (words .entry)) processor (blockNumbered block) ⌝ }
 {
-    let setup = setup_of(processors, lines, block_words, block_count);
+    let setup = setup_of(processors, lines, block_words, block_count, fetch_price, write_back_price);
     host_looks::look_length(setup, processor, Block(block), blocks, counters, words)
 }
 
@@ -86,16 +99,18 @@ pub extern "C" fn cuzkelor_look_offset(
     lines: u32,
     block_words: u32,
     block_count: u32,
+    fetch_price: u32,
+    write_back_price: u32,
     blocks: &[u32],
     counters: &[u32],
     words: &[u32],
     processor: u32,
     block: u32,
 ) -> usize
-    ensures { λ r. ⌜ r ≡ lookOffset (setupOf processors lines «block_words» «block_count»)
+    ensures { λ r. ⌜ r ≡ lookOffset (setupOf processors lines «block_words» «block_count» «fetch_price» «write_back_price»)
         (now (blocks .entry)) (now (counters .entry)) (now (words .entry)) processor (blockNumbered block) ⌝ }
 {
-    let setup = setup_of(processors, lines, block_words, block_count);
+    let setup = setup_of(processors, lines, block_words, block_count, fetch_price, write_back_price);
     host_looks::look_offset(setup, processor, Block(block), blocks, counters, words)
 }
 
@@ -106,6 +121,8 @@ pub extern "C" fn cuzkelor_run(
     lines: u32,
     block_words: u32,
     block_count: u32,
+    fetch_price: u32,
+    write_back_price: u32,
     blocks: &mut [u32],
     counters: &mut [u32],
     marks: &mut [u32],
@@ -122,11 +139,11 @@ pub extern "C" fn cuzkelor_run(
 ) -> u32
     ensures { λ r. ⌜ outcome (answered (now (taken .exit)) r (now (place .exit)))
         (after blocks counters marks words memory) (accountAfter «account_requests» «account_fetch» «account_write_back» «account_update») (now (values .exit))
-        ≡ runNumbers (setupOf processors lines «block_words» «block_count»)
+        ≡ runNumbers (setupOf processors lines «block_words» «block_count» «fetch_price» «write_back_price»)
         (before blocks counters marks words memory) (accountBefore «account_requests» «account_fetch» «account_write_back» «account_update»)
         (now (requests .entry)) (now (values .entry)) ⌝ }
 {
-    let setup = setup_of(processors, lines, block_words, block_count);
+    let setup = setup_of(processors, lines, block_words, block_count, fetch_price, write_back_price);
     let account = Account {
         requests: *account_requests,
         fetch: *account_fetch,
@@ -190,6 +207,8 @@ pub extern "C" fn cuzkelor_price(
     lines: u32,
     block_words: u32,
     block_count: u32,
+    fetch_price: u32,
+    write_back_price: u32,
     blocks: &mut [u32],
     held: &mut [u32],
     marks: &mut [u32],
@@ -199,12 +218,12 @@ pub extern "C" fn cuzkelor_price(
     cost: &mut u32,
 ) -> u32
     ensures { λ r. ⌜ numbered r (now (place .exit)) (now (cost .exit))
-        ≡ priceInNumbers (setupOf processors lines «block_words» «block_count») (rivalBefore blocks held marks)
+        ≡ priceInNumbers (setupOf processors lines «block_words» «block_count» «fetch_price» «write_back_price») (rivalBefore blocks held marks)
         (now (requests .entry)) (now (entries .entry)) ⌝ }
-    ensures { λ _. ⌜ rivalAfter blocks held marks ≡ priceTablesOfNumbers (setupOf processors lines «block_words» «block_count») (rivalBefore blocks held marks)
+    ensures { λ _. ⌜ rivalAfter blocks held marks ≡ priceTablesOfNumbers (setupOf processors lines «block_words» «block_count» «fetch_price» «write_back_price») (rivalBefore blocks held marks)
         (now (requests .entry)) (now (entries .entry)) ⌝ }
 {
-    let setup = setup_of(processors, lines, block_words, block_count);
+    let setup = setup_of(processors, lines, block_words, block_count, fetch_price, write_back_price);
     let answer = host_numbers::price(setup, blocks, held, marks, entries, requests);
     *place = place_of(answer);
     *cost = cost_of(answer);

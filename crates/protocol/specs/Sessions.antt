@@ -24,9 +24,13 @@ use Rattle.protocol_types.specs.declared.Entry.the-variants.{Fetch, WriteBack, 
 
 -- ---- short names for the rows
 
--- N, L, p, M
+-- N, L, p, M, f, g
+abbrev pub pricedBoard : ℕ → ℕ → ℕ → ℕ → ℕ → ℕ → Setup
+pricedBoard n l p m f g = record { processors = n; lines = l; words = p; blocks = m; «fetch_price» = f; «write_back_price» = g }
+
+-- N, L, p, M; "in S1 to S12 both equal p"
 abbrev pub board : ℕ → ℕ → ℕ → ℕ → Setup
-board n l p m = record { processors = n; lines = l; words = p; blocks = m }
+board n l p m = pricedBoard n l p m p p
 
 -- "N 4, L 8, M 64, p 4 unless said"
 abbrev pub usual : Setup

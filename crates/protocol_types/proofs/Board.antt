@@ -7,8 +7,8 @@ use native.Mathlib.Omega.{arith}
 use native.Mathlib.Nat.{mod-lt, mul-le-mul, mul-le-mul-right, suc-mul, div-lt-iff-lt-mul, mul-add-mod-self-right, mod-eq-of-lt, mul-add-div-right, div-eq-of-lt, add-zero, div-add-mod'}
 use lib.Dec.{leb}
 use borrow.Author.Tests.{leb-true}
-use Rattle.protocol_types.specs.Refusals.{noRefusal, setupOutOfRange}
-use Rattle.protocol_types.specs.Board.{inRange, setupRefusal, Fits, variables, slots, lineSlot, slot, wordIndex, blockOf, offsetOf, lineOf, fetchPrice, writeBackPrice, mostWriteBack}
+use Rattle.protocol_types.specs.Refusals.{noRefusal, unless, setupOutOfRange, priceOutOfRange}
+use Rattle.protocol_types.specs.Board.{sizesInRange, priceLimit, pricesInRange, setupRefusal, Fits, variables, slots, lineSlot, slot, wordIndex, blockOf, offsetOf, lineOf, fetchPrice, writeBackPrice, mostWriteBack}
 use Rattle.protocol_types.specs.declared.Setup.{Setup}
 use Rattle.protocol_types.specs.declared.Variable.{Variable}
 use Rattle.protocol_types.specs.declared.Block.{Block}
@@ -16,9 +16,9 @@ use Rattle.protocol_types.proofs.Laws.{both-true, chosen-zero, Same, sa
 
 -- ---- the range
 
-in-range-fits : (s : Setup) → inRange s ≡ true → Fits s
-unfolding inRange fetchPrice writeBackPrice mostWriteBack
-in-range-fits s e =
+in-range-fits : (s : Setup) → sizesInRange s ≡ true → pricesInRange s ≡ true → Fits s
+unfolding sizesInRange pricesInRange fetchPrice writeBackPrice mostWriteBack
+in-range-fits s e prices =
     let e1 = both-true _ _ e in
     let e2 = both-true _ _ (e1 .0) in
     let e3 = both-true _ _ (e2 .0) in
@@ -26,26 +26,33 @@ in-range-fits s e =
     let l = both-true (leb 1 (s .lines)) (leb (s .lines) 64) (e3 .1) in
     let p = both-true (leb 1 (s .words)) (leb (s .words) 16) (e2 .1) in
     let m = both-true (leb 1 (s .blocks)) (leb (s .blocks) 256) (e1 .1) in
-    let p1 = leb-true 1 (s .words) (p .0) in
-    let p2 = leb-true (s .words) 16 (p .1) in
+    let fg = both-true _ _ prices in
+    let f = both-true (leb 1 (s .«fetch_price»)) (leb (s .«fetch_price») priceLimit) (fg .0) in
+    let g = both-true (leb 1 (s .«write_back_price»)) (leb (s .«write_back_price») (s .«fetch_price»)) (fg .1) in
+    let few = leb-true (s .«fetch_price») priceLimit (f .1) in
+    let cheaper = leb-true (s .«write_back_price») (s .«fetch_price») (g .1) in
     record {
       some-processor = leb-true _ _ (n .0);
       few-processors = leb-true _ _ (n .1);
       some-line = leb-true _ _ (l .0);
       few-lines = leb-true _ _ (l .1);
-      some-word = p1;
-      few-words = p2;
+      some-word = leb-true _ _ (p .0);
+      few-words = leb-true _ _ (p .1);
       some-block = leb-true _ _ (m .0);
       few-blocks = leb-true _ _ (m .1);
-      some-fetch = p1;
-      few-fetch = p2;
-      write-back-le-fetch = omega arith;
-      few-write-back = p2;
+      some-fetch = leb-true _ _ (f .0);
+      few-fetch = few;
+      some-write-back = leb-true _ _ (g .0);
+      write-back-le-fetch = cheaper;
+      few-write-back = omega (arith, few, cheaper);
     }
 
 pub setup-fits : (s : Setup) → setupRefusal s ≡ noRefusal → Fits s
 unfolding setupRefusal
-setup-fits s e = in-range-fits s (chosen-zero (inRange s) noRefusal setupOutOfRange (omega arith) e .0)
+setup-fits s e =
+    let prices = unless (pricesInRange s) priceOutOfRange noRefusal in
+    let sizes = chosen-zero (sizesInRange s) prices setupOutOfRange (omega arith) e in
+    in-range-fits s (sizes .0) (chosen-zero (pricesInRange s) noRefusal priceOutOfRange (omega arith) (sizes .1) .0)
 
 -- ---- rows of width n: row i, column x
 

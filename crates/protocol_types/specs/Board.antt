@@ -3,7 +3,7 @@ use Prim.Native.Nat.{ℕ, _+_, _*_, _/_, _%_, _≤_, _<_}
 use mathlib.Core.Path.{_≡_}
 use mathlib.Core.Bool.{Bool, _&&_}
 use lib.Dec.{leb}
-use Rattle.protocol_types.specs.Refusals.{noRefusal, unless, setupOutOfRange}
+use Rattle.protocol_types.specs.Refusals.{noRefusal, unless, setupOutOfRange, priceOutOfRange}
 use Rattle.protocol_types.specs.declared.Setup.{Setup}
 use Rattle.protocol_types.specs.declared.Variable.{Variable}
 use Rattle.protocol_types.specs.declared.Block.{Block}
@@ -15,22 +15,34 @@ abbrev pub within : ℕ → ℕ → Bool
 within n x = leb 1 x && leb x n
 
 -- N processors (1 to 8), L lines in each cache (1 to 64), p words in a block (1 to 16), M blocks (1 to 256)
-unfoldable pub inRange : Setup → Bool
-inRange s = within 8 (s .processors) && within 64 (s .lines) && within 16 (s .words) && within 256 (s .blocks)
+unfoldable pub sizesInRange : Setup → Bool
+sizesInRange s = within 8 (s .processors) && within 64 (s .lines) && within 16 (s .words) && within 256 (s .blocks)
 
--- what refuses a setup
+-- ---- 10: f or g out of range (document 02, P1)
+
+-- the highest price
+abbrev pub priceLimit : ℕ
+priceLimit = 32
+
+-- "a fetch price f (1 to 32) and a write-back price g (1 to f)"
+unfoldable pub pricesInRange : Setup → Bool
+pricesInRange s = within priceLimit (s .«fetch_price») && within (s .«fetch_price») (s .«write_back_price»)
+
+-- what refuses a setup: "10 … after 1 and acting as 1 does"
 unfoldable pub setupRefusal : Setup → ℕ
-setupRefusal s = unless (inRange s) setupOutOfRange noRefusal
+setupRefusal s =
+    unless (sizesInRange s) setupOutOfRange
+    (unless (pricesInRange s) priceOutOfRange noRefusal)
 
--- ---- "Cycles of a move of p words are p"
+-- ---- "The engine and every rival pay these prices"
 
--- the cycles of a fetch, which is also a full counter
+-- the cycles of a fetch, which is also a full counter: f
 unfoldable pub fetchPrice : Setup → ℕ
-fetchPrice s = s .words
+fetchPrice s = s .«fetch_price»
 
--- the cycles of a write-back
+-- the cycles of a write-back: g
 unfoldable pub writeBackPrice : Setup → ℕ
-writeBackPrice s = s .words
+writeBackPrice s = s .«write_back_price»
 
 -- the most write-back cycles of one request
 unfoldable pub mostWriteBack : Setup → ℕ
@@ -47,9 +59,10 @@ pub record Fits (s : Setup) : Type 0 where
   pub some-block : 1 ≤ s .blocks
   pub few-blocks : s .blocks ≤ 256
   pub some-fetch : 1 ≤ fetchPrice s
-  pub few-fetch : fetchPrice s ≤ 16
+  pub few-fetch : fetchPrice s ≤ priceLimit
+  pub some-write-back : 1 ≤ writeBackPrice s
   pub write-back-le-fetch : writeBackPrice s ≤ fetchPrice s
-  pub few-write-back : mostWriteBack s ≤ 16
+  pub few-write-back : mostWriteBack s ≤ priceLimit
 
 -- ---- variables and blocks
 

@@ -55,6 +55,10 @@ noSuchBlock = 8
 abbrev pub readByBroadcast : ℕ
 readByBroadcast = 9
 
+-- 10: fetch price or write-back price out of range (document 02, P1)
+abbrev pub priceOutOfRange : ℕ
+priceOutOfRange = 10
+
 -- 20: tables not sound
 abbrev pub unsoundTables : ℕ
 unsoundTables = 20

@@ -1,7 +1,7 @@
 // The types of the board, the engine and the rival, the refusal numbers, and the methods of a setup. The rules are in protocol.
 ghost use mathlib.Core.Path.{_≡_};
 ghost use Prim.Native.Nat.{_*_, _<_};
-ghost use Rattle.protocol_types.specs.Board.{within, inRange, setupRefusal, Fits, fetchPrice, writeBackPrice, mostWriteBack, variables, blockOf, offsetOf, lineOf, slots, Placed};
+ghost use Rattle.protocol_types.specs.Board.{within, sizesInRange, pricesInRange, setupRefusal, fetchPrice, writeBackPrice, mostWriteBack, Fits, variables, blockOf, offsetOf, lineOf, slots, Placed};
 ghost use Rattle.protocol_types.specs.Conditions.{variableRefusal, namedRefusal, requestRefusal};
 
 // The refusal numbers.
@@ -25,6 +25,8 @@ pub const NO_SUCH_BLOCK: u32 = 8;
 
 pub const READ_BY_BROADCAST: u32 = 9;
 
+pub const PRICE_OUT_OF_RANGE: u32 = 10;
+
 pub const UNSOUND_TABLES: u32 = 20;
 
 pub const IMPOSSIBLE_ACCOUNT: u32 = 21;
@@ -46,12 +48,17 @@ pub const REQUESTS_LEFT: u32 = 28;
 // The requests that an account takes, and the pricer.
 pub const REQUEST_LIMIT: u32 = 1000000;
 
-// The board: N processors, L lines in each cache, p words in a block, M blocks.
+// The highest price.
+const PRICE_LIMIT: u32 = 32;
+
+// The board: N processors, L lines in each cache, p words in a block, M blocks, and the cycles of a fetch (f) and of a write-back (g).
 pub struct Setup {
     pub processors: u32,
     pub lines: u32,
     pub words: u32,
     pub blocks: u32,
+    pub fetch_price: u32,
+    pub write_back_price: u32,
 }
 
 // A variable's number. No block number can stand for it.
@@ -72,8 +79,8 @@ fn is_within(most: u32, x: u32) -> bool
 
 impl Setup {
     // Whether condition 1 lets the setup through.
-    fn in_range(self) -> bool
-        ensures { λ r. ⌜ r ≡ inRange self ⌝ }
+    fn sizes_in_range(self) -> bool
+        ensures { λ r. ⌜ r ≡ sizesInRange self ⌝ }
     {
         if !is_within(8, self.processors) {
             return false;
@@ -87,12 +94,25 @@ impl Setup {
         is_within(256, self.blocks)
     }
 
-    // The refusal number of the setup, or 0.
+    // Whether condition 10 lets the setup through.
+    fn prices_in_range(self) -> bool
+        ensures { λ r. ⌜ r ≡ pricesInRange self ⌝ }
+    {
+        if !is_within(PRICE_LIMIT, self.fetch_price) {
+            return false;
+        }
+        is_within(self.fetch_price, self.write_back_price)
+    }
+
+    // The refusal number of the setup, or 0: 1, 10 in this order.
     pub fn refusal(self) -> u32
         ensures { λ r. ⌜ r ≡ setupRefusal self ⌝ }
     {
-        if !self.in_range() {
+        if !self.sizes_in_range() {
             return SETUP_OUT_OF_RANGE;
+        }
+        if !self.prices_in_range() {
+            return PRICE_OUT_OF_RANGE;
         }
         NO_REFUSAL
     }
@@ -101,14 +121,14 @@ impl Setup {
     pub fn fetch_price(self) -> u32
         ensures { λ r. ⌜ r ≡ fetchPrice self ⌝ }
     {
-        self.words
+        self.fetch_price
     }
 
     // The cycles of a write-back.
     pub fn write_back_price(self) -> u32
         ensures { λ r. ⌜ r ≡ writeBackPrice self ⌝ }
     {
-        self.words
+        self.write_back_price
     }
 
     // The most write-back cycles of one request.

@@ -13,7 +13,7 @@ use lib.Seq.{drop-cons}
 use lib.Dec.{ltb, eqb}
 use borrow.Author.Tests.{ltb-true, ltb-false, eqb-true, eq-eqb}
 use Rattle.protocol_types.specs.Refusals.{noRefusal, requestsLeft}
-use Rattle.protocol_types.specs.Board.{Fits}
+use Rattle.protocol_types.specs.Board.{priceLimit, Fits}
 use Rattle.protocol.specs.Accounts.{nothing, plus, cycles}
 use Rattle.protocol.specs.Rival.{Rival, RivalSized, noCopies, played, left, cost, refusal, endRefusal}
 use Rattle.protocol.specs.Pricer.{Verdict, accepted, refused, ending, judged, verdict, priceEntryLimit, priceRefusal, answerTo, price, copiesAfter, priceTables}
@@ -124,7 +124,7 @@ module _ (s : Setup) (r : Rival) (es : List Entry) (qs : List Request) where
 
     -- ---- a stage at a place
 
-    module _ (ok : Fits s) (few : length es ≤ priceEntryLimit) (a k c : ℕ) (y : Rival) (sized : RivalSized s y) (within : a ≤ length es) (low : c ≤ 16 * a)
+    module _ (ok : Fits s) (few : length es ≤ priceEntryLimit) (a k c : ℕ) (y : Rival) (sized : RivalSized s y) (within : a ≤ length es) (low : c ≤ priceLimit * a)
         (b : Bill) (cost-is : cycles b ≡ c) (same : judged s y (drop k qs) (drop a es) a b ≡ verdict s qs es) where
       abbrev p : Pricing
       p = pricingAt (length es) (length qs) a k c

@@ -4,7 +4,7 @@ use mathlib.Core.Bool.{Bool, true, false, _&&_, cond}
 use mathlib.Core.List.{List, [], _∷_}
 use lib.Dec.{ltb, eqb}
 use Rattle.protocol_types.specs.Refusals.{noRefusal, requestsLeft}
-use Rattle.protocol_types.specs.Board.{Fits}
+use Rattle.protocol_types.specs.Board.{priceLimit, Fits}
 use Rattle.protocol.specs.Accounts.{cycles}
 use Rattle.protocol.specs.Rival.{Rival, RivalSized, noCopies, played, cost, refusal}
 use Rattle.protocol.specs.Pricer.{priceEntryLimit, priceRefusal}
@@ -134,16 +134,16 @@ completed s x q = priceTurned s x (q ∷ []) (completion (x .progress .«by_broa
 -- the entry at the place costs n cycles, and there are so few entries that no sum wraps
 pub record Paid (p : Pricing) (n : ℕ) : Type 0 where
   pub few : p .at < priceEntryLimit
-  pub cheap : p .cost ≤ 16 * p .at
-  pub entry : n ≤ 16
+  pub cheap : p .cost ≤ priceLimit * p .at
+  pub entry : n ≤ priceLimit
 
--- an entry is at the place, and the cost so far is at most 16 an entry: so it does not wrap
+-- an entry is at the place, and the cost so far is at most the highest price an entry: so it does not wrap
 pub record PriceReady (s : Setup) (x : PriceStage) : Type 0 where
   pub fits : Fits s
   pub sized : RivalSized s (x .copies)
   pub within : x .progress .at < x .progress .entries
   pub few : x .progress .entries ≤ priceEntryLimit
-  pub cheap : x .progress .cost ≤ 16 * x .progress .at
+  pub cheap : x .progress .cost ≤ priceLimit * x .progress .at
 
 -- and a request is left to complete
 pub record Due (s : Setup) (x : PriceStage) : Type 0 where

@@ -7,7 +7,7 @@ use mathlib.Core.Bool.{Bool, true, false}
 use mathlib.Core.List.{List, [], _∷_}
 use native.Mathlib.Omega.{arith}
 use borrow.Author.Tests.{eq-eqb, ne-eqb}
-use Rattle.protocol_types.specs.Board.{Fits, blockOf}
+use Rattle.protocol_types.specs.Board.{priceLimit, Fits, blockOf}
 use Rattle.protocol.specs.Accounts.{cycles}
 use Rattle.protocol.specs.Rival.{Rival, noCopies, shared, played, completionBy, completionCycles, cost, completionRefusal, refusal}
 use Rattle.protocol.specs.Pricer.{priceRefusal}
@@ -66,7 +66,7 @@ module _ (s : Setup) (r : Rival) (q : Request) where
   completion-cost-is true = omega arith
   completion-cost-is false = omega arith
 
--- ---- no entry costs more than 16
+-- ---- no entry costs more than the highest price
 
 cheap-by : (s : Setup) (r : Rival) (i : ℕ) (o : Operation) (b : Bool) → completionBy s r i o b ≤ 1
 cheap-by s r i (Read v) b = omega arith
@@ -77,7 +77,7 @@ pub cheap-completion : (s : Setup) (r : Rival) (q : Request) (b : Bool) → comp
 unfolding completionCycles
 cheap-completion s r q b = cheap-by s r (q .processor) (q .operation) b
 
-pub cheap : (s : Setup) → Fits s → (r : Rival) (qs : List Request) (e : Entry) → cycles (cost s r qs e) ≤ 16
+pub cheap : (s : Setup) → Fits s → (r : Rival) (qs : List Request) (e : Entry) → cycles (cost s r qs e) ≤ priceLimit
 cheap s f r qs (Fetch i b) = omega (arith, f .few-fetch)
 cheap s f r qs (WriteBack i b) = omega (arith, f .few-fetch, f .write-back-le-fetch)
 cheap s f r qs (Drop i b) = omega arith

@@ -21,9 +21,9 @@ use Rattle.trace_lines.specs.declared.Meaning.{Meaning}
 use Rattle.trace_lines.specs.declared.Meaning.the-variants.{Malformed, Unknown, Asks}
 use Rattle.trace_lines.specs.declared.Report.{Report}
 
--- "Its setup is N 4, L 8, p 4, M 64."
+-- "Its setup is N 4, L 8, p 4, M 64."; "`buscount` uses f 4, g 4"
 unfoldable pub traceSetup : Setup
-traceSetup = record { processors = 4; lines = 8; words = 4; blocks = 64 }
+traceSetup = record { processors = 4; lines = 8; words = 4; blocks = 64; «fetch_price» = 4; «write_back_price» = 4 }
 
 -- ---- what a line asks for
 

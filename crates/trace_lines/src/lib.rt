@@ -34,6 +34,8 @@ pub fn trace_setup() -> Setup
         lines: 8,
         words: 4,
         blocks: 64,
+        fetch_price: 4,
+        write_back_price: 4,
     }
 }
 

@@ -1,16 +1,16 @@
 -- Each number passes, or the first that does not decides.
 use borrow.Author.Needs.{needs}
-use Rattle.protocol_types.specs.Board.{inRange}
+use Rattle.protocol_types.specs.Board.{sizesInRange}
 use Rattle.protocol_types.proofs.Laws.{failed, passed}
-use Rattle.protocol_types.proofs.Setup.in_range.Statement.{statement}
-use Rattle.protocol_types.proofs.Setup.in_range.Tie as tie
+use Rattle.protocol_types.proofs.Setup.sizes_in_range.Statement.{statement}
+use Rattle.protocol_types.proofs.Setup.sizes_in_range.Tie as tie
 
 returns : tie.Need-returns
-unfolding inRange
+unfolding sizesInRange
 returns c = simp (failed (c .before .is-within .ensures) (c .if1 .taken))
 
 returns-2 : tie.Need-returns-2
-unfolding inRange
+unfolding sizesInRange
 returns-2 c =
     simp (
       passed (c .before .before .before .is-within .ensures) (c .before .before .if1 .left),
@@ -18,7 +18,7 @@ returns-2 c =
     )
 
 returns-3 : tie.Need-returns-3
-unfolding inRange
+unfolding sizesInRange
 returns-3 c =
     simp (
       passed (c .before .before .before .before .before .is-within .ensures) (c .before .before .before .before .if1 .left),
@@ -27,7 +27,7 @@ returns-3 c =
     )
 
 returns-4 : tie.Need-returns-4
-unfolding inRange
+unfolding sizesInRange
 returns-4 c =
     simp (
       passed (c .before .before .before .before .before .before .is-within .ensures) (c .before .before .before .before .before .if1 .left),
@@ -36,8 +36,8 @@ returns-4 c =
     )
     (c .is-within4 .ensures)
 
-pub in-range-spec : {M : Type 1} → statement M
-in-range-spec =
+pub sizes-in-range-spec : {M : Type 1} → statement M
+sizes-in-range-spec =
     tie.close
     (tie.spec
     (λ c κs. search needs)
