@@ -66,7 +66,14 @@ pub extern "C" fn cuzkelor_start(
     ensures { λ _. ⌜ after blocks counters marks words memory
         ≡ started (setupOf processors lines «block_words» «block_count» «fetch_price» «write_back_price») (before blocks counters marks words memory) ⌝ }
 {
-    let setup = setup_of(processors, lines, block_words, block_count, fetch_price, write_back_price);
+    let setup = setup_of(
+        processors,
+        lines,
+        block_words,
+        block_count,
+        fetch_price,
+        write_back_price,
+    );
     engine_tables::start(setup, blocks, counters, marks, words, memory)
 }
 
@@ -88,7 +95,14 @@ pub extern "C" fn cuzkelor_look_length(
     ensures { λ r. ⌜ r ≡ lookLength (setupOf processors lines «block_words» «block_count» «fetch_price» «write_back_price»)
         (now (blocks .entry)) (now (counters .entry)) (now (words .entry)) processor (blockNumbered block) ⌝ }
 {
-    let setup = setup_of(processors, lines, block_words, block_count, fetch_price, write_back_price);
+    let setup = setup_of(
+        processors,
+        lines,
+        block_words,
+        block_count,
+        fetch_price,
+        write_back_price,
+    );
     host_looks::look_length(setup, processor, Block(block), blocks, counters, words)
 }
 
@@ -110,7 +124,14 @@ pub extern "C" fn cuzkelor_look_offset(
     ensures { λ r. ⌜ r ≡ lookOffset (setupOf processors lines «block_words» «block_count» «fetch_price» «write_back_price»)
         (now (blocks .entry)) (now (counters .entry)) (now (words .entry)) processor (blockNumbered block) ⌝ }
 {
-    let setup = setup_of(processors, lines, block_words, block_count, fetch_price, write_back_price);
+    let setup = setup_of(
+        processors,
+        lines,
+        block_words,
+        block_count,
+        fetch_price,
+        write_back_price,
+    );
     host_looks::look_offset(setup, processor, Block(block), blocks, counters, words)
 }
 
@@ -143,7 +164,14 @@ pub extern "C" fn cuzkelor_run(
         (before blocks counters marks words memory) (accountBefore «account_requests» «account_fetch» «account_write_back» «account_update»)
         (now (requests .entry)) (now (values .entry)) ⌝ }
 {
-    let setup = setup_of(processors, lines, block_words, block_count, fetch_price, write_back_price);
+    let setup = setup_of(
+        processors,
+        lines,
+        block_words,
+        block_count,
+        fetch_price,
+        write_back_price,
+    );
     let account = Account {
         requests: *account_requests,
         fetch: *account_fetch,
@@ -223,7 +251,14 @@ pub extern "C" fn cuzkelor_price(
     ensures { λ _. ⌜ rivalAfter blocks held marks ≡ priceTablesOfNumbers (setupOf processors lines «block_words» «block_count» «fetch_price» «write_back_price») (rivalBefore blocks held marks)
         (now (requests .entry)) (now (entries .entry)) ⌝ }
 {
-    let setup = setup_of(processors, lines, block_words, block_count, fetch_price, write_back_price);
+    let setup = setup_of(
+        processors,
+        lines,
+        block_words,
+        block_count,
+        fetch_price,
+        write_back_price,
+    );
     let answer = host_numbers::price(setup, blocks, held, marks, entries, requests);
     *place = place_of(answer);
     *cost = cost_of(answer);

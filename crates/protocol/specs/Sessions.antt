@@ -1,4 +1,4 @@
--- The twelve sessions of document 01 and the cases beside them, as one table. proofs/Sessions proves that every row passes.
+-- The twelve sessions of document 01 and the cases beside them, then those of document 02, as one table. proofs/Sessions proves that every row passes.
 -- A session compares the answer, the values, the account and every entry of every table with what the row says.
 use Prim.Native.Nat.{ℕ, _*_}
 use mathlib.Core.Bool.{Bool, true, false, _&&_, not, cond}
@@ -39,6 +39,18 @@ usual = board 4 8 4 64
 -- the board of most quotes
 abbrev pub small : Setup
 small = board 2 2 3 5
+
+-- "document 003's pipelined bus has fetch 5, write-back 4, update 1 for four words"
+abbrev pub pipelined : Setup
+pipelined = pricedBoard 4 8 4 64 5 4
+
+-- f and g above p
+abbrev pub dearFetch : Setup
+dearFetch = pricedBoard 2 2 2 5 5 3
+
+-- f and g below p
+abbrev pub cheapFetch : Setup
+cheapFetch = pricedBoard 2 2 4 5 3 2
 
 abbrev pub read : ℕ → ℕ → Request
 read i v = record { processor = i; operation = Read (record { 0 = v }) }
@@ -594,7 +606,7 @@ rows =
       lines = [];
       memory = [];
     })
-    -- 21: fetch cycles over p × requests
+    -- 21: fetch cycles over f × requests
     ∷ session (record {
       setup = usual;
       account = account 2 9 8 2;
@@ -608,7 +620,7 @@ rows =
       lines = [];
       memory = [];
     })
-    -- 21: write-back cycles over p × requests
+    -- 21: write-back cycles over g × requests
     ∷ session (record {
       setup = usual;
       account = account 2 8 9 2;
@@ -962,7 +974,7 @@ rows =
     ∷ tabled (board 2 2 2 5) (tables (4 ∷ 3 ∷ 4 ∷ 0 ∷ []) (1 ∷ 2 ∷ 2 ∷ 0 ∷ []) (0 ∷ 1 ∷ 0 ∷ 0 ∷ [])
     (8 ∷ 9 ∷ 5 ∷ 6 ∷ 8 ∷ 9 ∷ 0 ∷ 0 ∷ [])
     (0 ∷ 0 ∷ 0 ∷ 0 ∷ 0 ∷ 0 ∷ 7 ∷ 7 ∷ 8 ∷ 9 ∷ [])) 0
-    -- 20: a counter over p
+    -- 20: a counter over f
     ∷ tabled (board 2 2 2 5) (tables (4 ∷ 3 ∷ 4 ∷ 0 ∷ []) (3 ∷ 2 ∷ 2 ∷ 0 ∷ []) (0 ∷ 1 ∷ 0 ∷ 0 ∷ [])
     (8 ∷ 9 ∷ 5 ∷ 6 ∷ 8 ∷ 9 ∷ 0 ∷ 0 ∷ [])
     (0 ∷ 0 ∷ 0 ∷ 0 ∷ 0 ∷ 0 ∷ 7 ∷ 7 ∷ 8 ∷ 9 ∷ [])) 20
@@ -990,7 +1002,7 @@ rows =
     ∷ tabled (board 2 2 2 5) (tables (4 ∷ 3 ∷ 4 ∷ 0 ∷ []) (1 ∷ 2 ∷ 2 ∷ 0 ∷ []) (0 ∷ 2 ∷ 0 ∷ 0 ∷ [])
     (8 ∷ 9 ∷ 5 ∷ 6 ∷ 8 ∷ 9 ∷ 0 ∷ 0 ∷ [])
     (0 ∷ 0 ∷ 0 ∷ 0 ∷ 0 ∷ 0 ∷ 7 ∷ 7 ∷ 8 ∷ 9 ∷ [])) 20
-    -- 20: a marked block with counter below p
+    -- 20: a marked block with counter below f
     ∷ tabled (board 2 2 2 5) (tables (4 ∷ 3 ∷ 4 ∷ 0 ∷ []) (1 ∷ 1 ∷ 2 ∷ 0 ∷ []) (0 ∷ 1 ∷ 0 ∷ 0 ∷ [])
     (8 ∷ 9 ∷ 5 ∷ 6 ∷ 8 ∷ 9 ∷ 0 ∷ 0 ∷ [])
     (0 ∷ 0 ∷ 0 ∷ 0 ∷ 0 ∷ 0 ∷ 7 ∷ 7 ∷ 8 ∷ 9 ∷ [])) 20
@@ -1510,7 +1522,7 @@ rows =
       held = 0 ∷ 1 ∷ 0 ∷ 1 ∷ 0 ∷ 1 ∷ [];
       marks = 0 ∷ 0 ∷ 0 ∷ 1 ∷ 0 ∷ 0 ∷ [];
     })
-    -- a write-back clears that mark alone, and costs p
+    -- a write-back clears that mark alone, and costs g
     ∷ quote (record {
       setup = board 3 2 3 5;
       requests = write 0 10 5 ∷ write 0 6 5 ∷ write 1 4 5 ∷ [];
@@ -1592,4 +1604,532 @@ rows =
     ∷ checked small 4 5 4 0 0 2
     ∷ checked small 4 4 3 0 0 2
     ∷ checked small 4 4 5 0 0 2
+    -- ---- document 02, P1
+    -- P1: document 003's pipelined bus: four fetches, a write-back and an update
+    ∷ session (record {
+      setup = pipelined;
+      account = account 0 0 0 0;
+      before = [];
+      requests = write 0 37 6 ∷ read 1 37 ∷ write 1 38 7 ∷ read 0 5 ∷ write 0 4 3 ∷ read 0 37 ∷ [];
+      values = 6 ∷ 6 ∷ 7 ∷ 0 ∷ 3 ∷ 6 ∷ [];
+      answer = answered 6 0 0;
+      cost = cost 20 4 1;
+      left = account 6 20 4 1;
+      changes = true;
+      lines = copy 1 9 5 0 (0 ∷ 6 ∷ 7 ∷ 0 ∷ []) ∷ copy 9 9 5 0 (0 ∷ 6 ∷ 7 ∷ 0 ∷ []) ∷ [];
+      memory = cell 4 3 ∷ cell 37 6 ∷ cell 38 7 ∷ [];
+    })
+    -- a miss that writes back costs f and g, p being below both
+    ∷ session (record {
+      setup = dearFetch;
+      account = account 0 0 0 0;
+      before = write 0 2 7 ∷ [];
+      requests = read 0 6 ∷ [];
+      values = 0 ∷ [];
+      answer = answered 1 0 0;
+      cost = cost 5 3 0;
+      left = account 2 10 3 0;
+      changes = true;
+      lines = copy 1 3 5 0 (0 ∷ 0 ∷ []) ∷ [];
+      memory = cell 2 7 ∷ [];
+    })
+    -- and p being above both
+    ∷ session (record {
+      setup = cheapFetch;
+      account = account 0 0 0 0;
+      before = write 0 4 7 ∷ [];
+      requests = read 0 12 ∷ [];
+      values = 0 ∷ [];
+      answer = answered 1 0 0;
+      cost = cost 3 2 0;
+      left = account 2 6 2 0;
+      changes = true;
+      lines = copy 1 3 3 0 (0 ∷ 0 ∷ 0 ∷ 0 ∷ []) ∷ [];
+      memory = cell 4 7 ∷ [];
+    })
+    -- the old owner is left unmarked, its counter stays f; the new copy's is f, and no write-back is charged
+    ∷ session (record {
+      setup = dearFetch;
+      account = account 0 0 0 0;
+      before = write 0 2 7 ∷ [];
+      requests = read 1 2 ∷ [];
+      values = 7 ∷ [];
+      answer = answered 1 0 0;
+      cost = cost 5 0 0;
+      left = account 2 10 0 0;
+      changes = true;
+      lines = copy 1 1 5 0 (7 ∷ 0 ∷ []) ∷ copy 3 1 5 0 (7 ∷ 0 ∷ []) ∷ [];
+      memory = cell 2 7 ∷ [];
+    })
+    -- after f − 1 writes, more than p, the payer still holds the block
+    ∷ session (record {
+      setup = dearFetch;
+      account = account 0 0 0 0;
+      before = read 0 2 ∷ read 1 2 ∷ [];
+      requests = write 1 3 4 ∷ write 1 3 5 ∷ write 1 2 6 ∷ write 1 3 7 ∷ [];
+      values = 4 ∷ 5 ∷ 6 ∷ 7 ∷ [];
+      answer = answered 4 0 0;
+      cost = cost 0 0 4;
+      left = account 6 10 0 4;
+      changes = true;
+      lines = copy 1 1 1 0 (6 ∷ 7 ∷ []) ∷ copy 3 1 5 0 (6 ∷ 7 ∷ []) ∷ [];
+      memory = cell 2 6 ∷ cell 3 7 ∷ [];
+    })
+    -- the write f empties its line
+    ∷ session (record {
+      setup = dearFetch;
+      account = account 0 0 0 0;
+      before = read 0 2 ∷ read 1 2 ∷ write 1 3 4 ∷ write 1 3 5 ∷ write 1 2 6 ∷ write 1 3 7 ∷ [];
+      requests = write 1 2 8 ∷ [];
+      values = 8 ∷ [];
+      answer = answered 1 0 0;
+      cost = cost 0 0 1;
+      left = account 7 10 0 5;
+      changes = true;
+      lines = copy 3 1 5 0 (8 ∷ 7 ∷ []) ∷ [];
+      memory = cell 2 8 ∷ cell 3 7 ∷ [];
+    })
+    -- with f below p it holds the block after f − 1 writes
+    ∷ session (record {
+      setup = cheapFetch;
+      account = account 0 0 0 0;
+      before = read 0 4 ∷ read 1 4 ∷ [];
+      requests = write 1 5 4 ∷ write 1 6 5 ∷ [];
+      values = 4 ∷ 5 ∷ [];
+      answer = answered 2 0 0;
+      cost = cost 0 0 2;
+      left = account 4 6 0 2;
+      changes = true;
+      lines = copy 1 1 1 0 (0 ∷ 4 ∷ 5 ∷ 0 ∷ []) ∷ copy 3 1 3 0 (0 ∷ 4 ∷ 5 ∷ 0 ∷ []) ∷ [];
+      memory = cell 5 4 ∷ cell 6 5 ∷ [];
+    })
+    -- and the write f, before p writes, empties its line
+    ∷ session (record {
+      setup = cheapFetch;
+      account = account 0 0 0 0;
+      before = read 0 4 ∷ read 1 4 ∷ write 1 5 4 ∷ write 1 6 5 ∷ [];
+      requests = write 1 7 6 ∷ [];
+      values = 6 ∷ [];
+      answer = answered 1 0 0;
+      cost = cost 0 0 1;
+      left = account 5 6 0 3;
+      changes = true;
+      lines = copy 3 1 3 0 (0 ∷ 4 ∷ 5 ∷ 6 ∷ []) ∷ [];
+      memory = cell 5 4 ∷ cell 6 5 ∷ cell 7 6 ∷ [];
+    })
+    -- f 1: the first write empties the payer's line
+    ∷ session (record {
+      setup = pricedBoard 2 2 2 5 1 1;
+      account = account 0 0 0 0;
+      before = read 0 2 ∷ read 1 2 ∷ [];
+      requests = write 1 3 4 ∷ [];
+      values = 4 ∷ [];
+      answer = answered 1 0 0;
+      cost = cost 0 0 1;
+      left = account 3 2 0 1;
+      changes = true;
+      lines = copy 3 1 1 0 (0 ∷ 4 ∷ []) ∷ [];
+      memory = cell 3 4 ∷ [];
+    })
+    -- a shared write refills the writer's counter to f
+    ∷ session (record {
+      setup = dearFetch;
+      account = account 0 0 0 0;
+      before = read 0 2 ∷ read 1 2 ∷ write 1 3 4 ∷ write 1 3 5 ∷ write 1 2 6 ∷ [];
+      requests = write 0 2 9 ∷ [];
+      values = 9 ∷ [];
+      answer = answered 1 0 0;
+      cost = cost 0 0 1;
+      left = account 6 10 0 4;
+      changes = true;
+      lines = copy 1 1 5 0 (9 ∷ 5 ∷ []) ∷ copy 3 1 4 0 (9 ∷ 5 ∷ []) ∷ [];
+      memory = cell 2 9 ∷ cell 3 5 ∷ [];
+    })
+    -- with f below p too
+    ∷ session (record {
+      setup = cheapFetch;
+      account = account 0 0 0 0;
+      before = read 0 4 ∷ read 1 4 ∷ write 1 5 4 ∷ write 1 6 5 ∷ [];
+      requests = write 0 4 9 ∷ [];
+      values = 9 ∷ [];
+      answer = answered 1 0 0;
+      cost = cost 0 0 1;
+      left = account 5 6 0 3;
+      changes = true;
+      lines = copy 1 1 3 0 (9 ∷ 4 ∷ 5 ∷ 0 ∷ []) ∷ copy 3 1 2 0 (9 ∷ 4 ∷ 5 ∷ 0 ∷ []) ∷ [];
+      memory = cell 4 9 ∷ cell 5 4 ∷ cell 6 5 ∷ [];
+    })
+    -- and so does a lone write
+    ∷ session (record {
+      setup = dearFetch;
+      account = account 0 0 0 0;
+      before = read 0 2 ∷ read 1 2 ∷ write 1 3 4 ∷ write 1 3 5 ∷ read 1 6 ∷ [];
+      requests = write 0 2 9 ∷ [];
+      values = 9 ∷ [];
+      answer = answered 1 0 0;
+      cost = cost 0 0 0;
+      left = account 6 15 0 2;
+      changes = true;
+      lines = copy 1 1 5 1 (9 ∷ 5 ∷ []) ∷ copy 3 3 5 0 (0 ∷ 0 ∷ []) ∷ [];
+      memory = cell 3 5 ∷ [];
+    })
+    -- an account at f × requests and g × requests is possible
+    ∷ session (record {
+      setup = dearFetch;
+      account = account 2 10 6 2;
+      before = [];
+      requests = read 1 2 ∷ [];
+      values = 0 ∷ [];
+      answer = answered 1 0 0;
+      cost = cost 5 0 0;
+      left = account 3 15 6 2;
+      changes = true;
+      lines = copy 3 1 5 0 (0 ∷ 0 ∷ []) ∷ [];
+      memory = [];
+    })
+    -- 21: fetch cycles over f × requests
+    ∷ session (record {
+      setup = dearFetch;
+      account = account 2 11 6 2;
+      before = [];
+      requests = read 1 2 ∷ [];
+      values = 9 ∷ [];
+      answer = answered 0 21 0;
+      cost = cost 0 0 0;
+      left = account 2 11 6 2;
+      changes = false;
+      lines = [];
+      memory = [];
+    })
+    -- 21: write-back cycles over g × requests
+    ∷ session (record {
+      setup = dearFetch;
+      account = account 2 10 7 2;
+      before = [];
+      requests = read 1 2 ∷ [];
+      values = 9 ∷ [];
+      answer = answered 0 21 0;
+      cost = cost 0 0 0;
+      left = account 2 10 7 2;
+      changes = false;
+      lines = [];
+      memory = [];
+    })
+    -- at these limits with f below p
+    ∷ session (record {
+      setup = cheapFetch;
+      account = account 2 6 4 2;
+      before = [];
+      requests = read 1 4 ∷ [];
+      values = 0 ∷ [];
+      answer = answered 1 0 0;
+      cost = cost 3 0 0;
+      left = account 3 9 4 2;
+      changes = true;
+      lines = copy 3 1 3 0 (0 ∷ 0 ∷ 0 ∷ 0 ∷ []) ∷ [];
+      memory = [];
+    })
+    -- 21: fetch cycles over f × requests, but not over p × requests
+    ∷ session (record {
+      setup = cheapFetch;
+      account = account 2 7 4 2;
+      before = [];
+      requests = read 1 4 ∷ [];
+      values = 9 ∷ [];
+      answer = answered 0 21 0;
+      cost = cost 0 0 0;
+      left = account 2 7 4 2;
+      changes = false;
+      lines = [];
+      memory = [];
+    })
+    -- 21: write-back cycles over g × requests, but not over f × requests
+    ∷ session (record {
+      setup = cheapFetch;
+      account = account 2 6 5 2;
+      before = [];
+      requests = read 1 4 ∷ [];
+      values = 9 ∷ [];
+      answer = answered 0 21 0;
+      cost = cost 0 0 0;
+      left = account 2 6 5 2;
+      changes = false;
+      lines = [];
+      memory = [];
+    })
+    -- the products are not cut to 32 bits: 2^27 requests
+    ∷ session (record {
+      setup = pricedBoard 2 2 2 5 32 31;
+      account = account 134217728 4294967295 4160749568 0;
+      before = [];
+      requests = read 1 2 ∷ [];
+      values = 9 ∷ [];
+      answer = answered 0 22 0;
+      cost = cost 0 0 0;
+      left = account 134217728 4294967295 4160749568 0;
+      changes = false;
+      lines = [];
+      memory = [];
+    })
+    -- 21: one over such a product
+    ∷ session (record {
+      setup = pricedBoard 2 2 2 5 32 31;
+      account = account 134217728 4294967295 4160749569 0;
+      before = [];
+      requests = read 1 2 ∷ [];
+      values = 9 ∷ [];
+      answer = answered 0 21 0;
+      cost = cost 0 0 0;
+      left = account 134217728 4294967295 4160749569 0;
+      changes = false;
+      lines = [];
+      memory = [];
+    })
+    -- a round of f writes and a read: 2f + 2f, here 20
+    ∷ session (record {
+      setup = dearFetch;
+      account = account 0 0 0 0;
+      before = [];
+      requests = read 0 2 ∷ read 1 2 ∷ write 0 2 4 ∷ write 0 2 5 ∷ write 0 2 6 ∷ write 0 2 7 ∷ write 0 2 8 ∷ read 1 2 ∷ [];
+      values = 0 ∷ 0 ∷ 4 ∷ 5 ∷ 6 ∷ 7 ∷ 8 ∷ 8 ∷ [];
+      answer = answered 8 0 0;
+      cost = cost 15 0 5;
+      left = account 8 15 0 5;
+      changes = true;
+      lines = copy 1 1 5 0 (8 ∷ 0 ∷ []) ∷ copy 3 1 5 0 (8 ∷ 0 ∷ []) ∷ [];
+      memory = cell 2 8 ∷ [];
+    })
+    -- and 12
+    ∷ session (record {
+      setup = cheapFetch;
+      account = account 0 0 0 0;
+      before = [];
+      requests = read 0 4 ∷ read 1 4 ∷ write 0 4 4 ∷ write 0 4 5 ∷ write 0 4 6 ∷ read 1 4 ∷ [];
+      values = 0 ∷ 0 ∷ 4 ∷ 5 ∷ 6 ∷ 6 ∷ [];
+      answer = answered 6 0 0;
+      cost = cost 9 0 3;
+      left = account 6 9 0 3;
+      changes = true;
+      lines = copy 1 1 3 0 (6 ∷ 0 ∷ 0 ∷ 0 ∷ []) ∷ copy 3 1 3 0 (6 ∷ 0 ∷ 0 ∷ 0 ∷ []) ∷ [];
+      memory = cell 4 6 ∷ [];
+    })
+    -- counters over p and up to f are sound, and so is a marked block with counter f
+    ∷ tabled dearFetch (tables (4 ∷ 3 ∷ 4 ∷ 0 ∷ []) (5 ∷ 5 ∷ 3 ∷ 0 ∷ []) (0 ∷ 1 ∷ 0 ∷ 0 ∷ []) (8 ∷ 9 ∷ 5 ∷ 6 ∷ 8 ∷ 9 ∷ 0 ∷ 0 ∷ []) (0 ∷ 0 ∷ 0 ∷ 0 ∷ 0 ∷ 0 ∷ 7 ∷ 7 ∷ 8 ∷ 9 ∷ [])) 0
+    -- 20: a counter over f
+    ∷ tabled dearFetch (tables (4 ∷ 3 ∷ 4 ∷ 0 ∷ []) (6 ∷ 5 ∷ 3 ∷ 0 ∷ []) (0 ∷ 1 ∷ 0 ∷ 0 ∷ []) (8 ∷ 9 ∷ 5 ∷ 6 ∷ 8 ∷ 9 ∷ 0 ∷ 0 ∷ []) (0 ∷ 0 ∷ 0 ∷ 0 ∷ 0 ∷ 0 ∷ 7 ∷ 7 ∷ 8 ∷ 9 ∷ [])) 20
+    -- 20: a marked block with counter p, below f
+    ∷ tabled dearFetch (tables (4 ∷ 3 ∷ 4 ∷ 0 ∷ []) (5 ∷ 2 ∷ 3 ∷ 0 ∷ []) (0 ∷ 1 ∷ 0 ∷ 0 ∷ []) (8 ∷ 9 ∷ 5 ∷ 6 ∷ 8 ∷ 9 ∷ 0 ∷ 0 ∷ []) (0 ∷ 0 ∷ 0 ∷ 0 ∷ 0 ∷ 0 ∷ 7 ∷ 7 ∷ 8 ∷ 9 ∷ [])) 20
+    -- 20: a marked block with counter f − 1
+    ∷ tabled dearFetch (tables (4 ∷ 3 ∷ 4 ∷ 0 ∷ []) (5 ∷ 4 ∷ 3 ∷ 0 ∷ []) (0 ∷ 1 ∷ 0 ∷ 0 ∷ []) (8 ∷ 9 ∷ 5 ∷ 6 ∷ 8 ∷ 9 ∷ 0 ∷ 0 ∷ []) (0 ∷ 0 ∷ 0 ∷ 0 ∷ 0 ∷ 0 ∷ 7 ∷ 7 ∷ 8 ∷ 9 ∷ [])) 20
+    -- with f below p
+    ∷ tabled cheapFetch (tables (4 ∷ 3 ∷ 4 ∷ 0 ∷ []) (3 ∷ 3 ∷ 1 ∷ 0 ∷ []) (0 ∷ 1 ∷ 0 ∷ 0 ∷ []) (1 ∷ 2 ∷ 3 ∷ 4 ∷ 5 ∷ 6 ∷ 5 ∷ 6 ∷ 1 ∷ 2 ∷ 3 ∷ 4 ∷ 0 ∷ 0 ∷ 0 ∷ 0 ∷ []) (0 ∷ 0 ∷ 0 ∷ 0 ∷ 0 ∷ 0 ∷ 0 ∷ 0 ∷ 0 ∷ 0 ∷ 0 ∷ 0 ∷ 7 ∷ 7 ∷ 7 ∷ 7 ∷ 1 ∷ 2 ∷ 3 ∷ 4 ∷ [])) 0
+    -- 20: a counter of p, over f
+    ∷ tabled cheapFetch (tables (4 ∷ 3 ∷ 4 ∷ 0 ∷ []) (4 ∷ 3 ∷ 1 ∷ 0 ∷ []) (0 ∷ 1 ∷ 0 ∷ 0 ∷ []) (1 ∷ 2 ∷ 3 ∷ 4 ∷ 5 ∷ 6 ∷ 5 ∷ 6 ∷ 1 ∷ 2 ∷ 3 ∷ 4 ∷ 0 ∷ 0 ∷ 0 ∷ 0 ∷ []) (0 ∷ 0 ∷ 0 ∷ 0 ∷ 0 ∷ 0 ∷ 0 ∷ 0 ∷ 0 ∷ 0 ∷ 0 ∷ 0 ∷ 7 ∷ 7 ∷ 7 ∷ 7 ∷ 1 ∷ 2 ∷ 3 ∷ 4 ∷ [])) 20
+    -- 20: a marked block with counter p, over f
+    ∷ tabled cheapFetch (tables (4 ∷ 3 ∷ 4 ∷ 0 ∷ []) (3 ∷ 4 ∷ 1 ∷ 0 ∷ []) (0 ∷ 1 ∷ 0 ∷ 0 ∷ []) (1 ∷ 2 ∷ 3 ∷ 4 ∷ 5 ∷ 6 ∷ 5 ∷ 6 ∷ 1 ∷ 2 ∷ 3 ∷ 4 ∷ 0 ∷ 0 ∷ 0 ∷ 0 ∷ []) (0 ∷ 0 ∷ 0 ∷ 0 ∷ 0 ∷ 0 ∷ 0 ∷ 0 ∷ 0 ∷ 0 ∷ 0 ∷ 0 ∷ 7 ∷ 7 ∷ 7 ∷ 7 ∷ 1 ∷ 2 ∷ 3 ∷ 4 ∷ [])) 20
+    -- f 32 and g 32 are taken
+    ∷ lent (record {
+      setup = pricedBoard 2 2 2 5 32 32;
+      account = account 3 0 0 0;
+      values = 9 ∷ [];
+      runRefusal = 0;
+      startRefusal = 0;
+      tables = tables (4 ∷ 3 ∷ 4 ∷ 0 ∷ []) (1 ∷ 32 ∷ 32 ∷ 0 ∷ []) (0 ∷ 1 ∷ 0 ∷ 0 ∷ []) (8 ∷ 9 ∷ 5 ∷ 6 ∷ 8 ∷ 9 ∷ 0 ∷ 0 ∷ []) (0 ∷ 0 ∷ 0 ∷ 0 ∷ 0 ∷ 0 ∷ 7 ∷ 7 ∷ 8 ∷ 9 ∷ []);
+      processor = 0;
+      block = 3;
+      seen = 5 ∷ 6 ∷ [];
+    })
+    -- f 32 and g 1
+    ∷ lent (record {
+      setup = pricedBoard 2 2 2 5 32 1;
+      account = account 3 0 0 0;
+      values = 9 ∷ [];
+      runRefusal = 0;
+      startRefusal = 0;
+      tables = tables (4 ∷ 3 ∷ 4 ∷ 0 ∷ []) (1 ∷ 32 ∷ 32 ∷ 0 ∷ []) (0 ∷ 1 ∷ 0 ∷ 0 ∷ []) (8 ∷ 9 ∷ 5 ∷ 6 ∷ 8 ∷ 9 ∷ 0 ∷ 0 ∷ []) (0 ∷ 0 ∷ 0 ∷ 0 ∷ 0 ∷ 0 ∷ 7 ∷ 7 ∷ 8 ∷ 9 ∷ []);
+      processor = 0;
+      block = 3;
+      seen = 5 ∷ 6 ∷ [];
+    })
+    -- f 1 and g 1
+    ∷ lent (record {
+      setup = pricedBoard 2 2 2 5 1 1;
+      account = account 3 0 0 0;
+      values = 9 ∷ [];
+      runRefusal = 0;
+      startRefusal = 0;
+      tables = tables (4 ∷ 3 ∷ 4 ∷ 0 ∷ []) (1 ∷ 1 ∷ 1 ∷ 0 ∷ []) (0 ∷ 1 ∷ 0 ∷ 0 ∷ []) (8 ∷ 9 ∷ 5 ∷ 6 ∷ 8 ∷ 9 ∷ 0 ∷ 0 ∷ []) (0 ∷ 0 ∷ 0 ∷ 0 ∷ 0 ∷ 0 ∷ 7 ∷ 7 ∷ 8 ∷ 9 ∷ []);
+      processor = 0;
+      block = 3;
+      seen = 5 ∷ 6 ∷ [];
+    })
+    -- 10: f 33; nothing changes, and the look is empty
+    ∷ lent (record {
+      setup = pricedBoard 2 2 2 5 33 2;
+      account = account 3 0 0 0;
+      values = 9 ∷ [];
+      runRefusal = 10;
+      startRefusal = 10;
+      tables = tables (4 ∷ 3 ∷ 4 ∷ 0 ∷ []) (1 ∷ 2 ∷ 2 ∷ 0 ∷ []) (0 ∷ 1 ∷ 0 ∷ 0 ∷ []) (8 ∷ 9 ∷ 5 ∷ 6 ∷ 8 ∷ 9 ∷ 0 ∷ 0 ∷ []) (0 ∷ 0 ∷ 0 ∷ 0 ∷ 0 ∷ 0 ∷ 7 ∷ 7 ∷ 8 ∷ 9 ∷ []);
+      processor = 0;
+      block = 3;
+      seen = [];
+    })
+    -- 10: f 0
+    ∷ lent (record {
+      setup = pricedBoard 2 2 2 5 0 0;
+      account = account 3 0 0 0;
+      values = 9 ∷ [];
+      runRefusal = 10;
+      startRefusal = 10;
+      tables = tables (4 ∷ 3 ∷ 4 ∷ 0 ∷ []) (1 ∷ 2 ∷ 2 ∷ 0 ∷ []) (0 ∷ 1 ∷ 0 ∷ 0 ∷ []) (8 ∷ 9 ∷ 5 ∷ 6 ∷ 8 ∷ 9 ∷ 0 ∷ 0 ∷ []) (0 ∷ 0 ∷ 0 ∷ 0 ∷ 0 ∷ 0 ∷ 7 ∷ 7 ∷ 8 ∷ 9 ∷ []);
+      processor = 0;
+      block = 3;
+      seen = [];
+    })
+    -- 10: g 0
+    ∷ lent (record {
+      setup = pricedBoard 2 2 2 5 2 0;
+      account = account 3 0 0 0;
+      values = 9 ∷ [];
+      runRefusal = 10;
+      startRefusal = 10;
+      tables = tables (4 ∷ 3 ∷ 4 ∷ 0 ∷ []) (1 ∷ 2 ∷ 2 ∷ 0 ∷ []) (0 ∷ 1 ∷ 0 ∷ 0 ∷ []) (8 ∷ 9 ∷ 5 ∷ 6 ∷ 8 ∷ 9 ∷ 0 ∷ 0 ∷ []) (0 ∷ 0 ∷ 0 ∷ 0 ∷ 0 ∷ 0 ∷ 7 ∷ 7 ∷ 8 ∷ 9 ∷ []);
+      processor = 0;
+      block = 3;
+      seen = [];
+    })
+    -- 10: g over f, both from 1 to 32
+    ∷ lent (record {
+      setup = pricedBoard 2 2 2 5 2 3;
+      account = account 3 0 0 0;
+      values = 9 ∷ [];
+      runRefusal = 10;
+      startRefusal = 10;
+      tables = tables (4 ∷ 3 ∷ 4 ∷ 0 ∷ []) (1 ∷ 2 ∷ 2 ∷ 0 ∷ []) (0 ∷ 1 ∷ 0 ∷ 0 ∷ []) (8 ∷ 9 ∷ 5 ∷ 6 ∷ 8 ∷ 9 ∷ 0 ∷ 0 ∷ []) (0 ∷ 0 ∷ 0 ∷ 0 ∷ 0 ∷ 0 ∷ 7 ∷ 7 ∷ 8 ∷ 9 ∷ []);
+      processor = 0;
+      block = 3;
+      seen = [];
+    })
+    -- 10: f and g too large
+    ∷ lent (record {
+      setup = pricedBoard 2 2 2 5 4294967295 4294967295;
+      account = account 3 0 0 0;
+      values = 9 ∷ [];
+      runRefusal = 10;
+      startRefusal = 10;
+      tables = tables (4 ∷ 3 ∷ 4 ∷ 0 ∷ []) (1 ∷ 2 ∷ 2 ∷ 0 ∷ []) (0 ∷ 1 ∷ 0 ∷ 0 ∷ []) (8 ∷ 9 ∷ 5 ∷ 6 ∷ 8 ∷ 9 ∷ 0 ∷ 0 ∷ []) (0 ∷ 0 ∷ 0 ∷ 0 ∷ 0 ∷ 0 ∷ 7 ∷ 7 ∷ 8 ∷ 9 ∷ []);
+      processor = 0;
+      block = 3;
+      seen = [];
+    })
+    -- 1 before 10
+    ∷ lent (record {
+      setup = pricedBoard 2 2 2 257 33 2;
+      account = account 3 0 0 0;
+      values = 9 ∷ [];
+      runRefusal = 1;
+      startRefusal = 1;
+      tables = tables (4 ∷ 3 ∷ 4 ∷ 0 ∷ []) (1 ∷ 2 ∷ 2 ∷ 0 ∷ []) (0 ∷ 1 ∷ 0 ∷ 0 ∷ []) (8 ∷ 9 ∷ 5 ∷ 6 ∷ 8 ∷ 9 ∷ 0 ∷ 0 ∷ []) (0 ∷ 0 ∷ 0 ∷ 0 ∷ 0 ∷ 0 ∷ 7 ∷ 7 ∷ 8 ∷ 9 ∷ []);
+      processor = 0;
+      block = 3;
+      seen = [];
+    })
+    -- 10 before 2
+    ∷ lent (record {
+      setup = pricedBoard 2 2 2 5 2 3;
+      account = account 0 1 0 0;
+      values = [];
+      runRefusal = 10;
+      startRefusal = 10;
+      tables = tables (4 ∷ 3 ∷ 4 ∷ []) (1 ∷ 2 ∷ 2 ∷ 0 ∷ []) (0 ∷ 1 ∷ 0 ∷ 0 ∷ []) (8 ∷ 9 ∷ 5 ∷ 6 ∷ 8 ∷ 9 ∷ 0 ∷ 0 ∷ []) (0 ∷ 0 ∷ 0 ∷ 0 ∷ 0 ∷ 0 ∷ 7 ∷ 7 ∷ 8 ∷ 9 ∷ []);
+      processor = 0;
+      block = 3;
+      seen = [];
+    })
+    -- 10 before 21
+    ∷ lent (record {
+      setup = pricedBoard 2 2 2 5 33 2;
+      account = account 0 1 0 0;
+      values = 9 ∷ [];
+      runRefusal = 10;
+      startRefusal = 10;
+      tables = tables (4 ∷ 3 ∷ 4 ∷ 0 ∷ []) (1 ∷ 2 ∷ 2 ∷ 0 ∷ []) (0 ∷ 1 ∷ 0 ∷ 0 ∷ []) (8 ∷ 9 ∷ 5 ∷ 6 ∷ 8 ∷ 9 ∷ 0 ∷ 0 ∷ []) (0 ∷ 0 ∷ 0 ∷ 0 ∷ 0 ∷ 0 ∷ 7 ∷ 7 ∷ 8 ∷ 9 ∷ []);
+      processor = 0;
+      block = 3;
+      seen = [];
+    })
+    -- a rival pays f for a fetch, g for a write-back and 1 for an update, p being below f and g
+    ∷ quote (record {
+      setup = dearFetch;
+      requests = write 1 6 5 ∷ write 1 6 4 ∷ [];
+      entries = fetchEntry 1 3 ∷ Complete ∷ fetchEntry 0 3 ∷ Complete ∷ writeBackEntry 1 3 ∷ [];
+      number = 0;
+      place = 0;
+      cost = 14;
+      blocks = 0 ∷ 3 ∷ 0 ∷ 3 ∷ [];
+      held = 0 ∷ 1 ∷ 0 ∷ 1 ∷ [];
+      marks = 0 ∷ 0 ∷ 0 ∷ 0 ∷ [];
+    })
+    -- and p being above both
+    ∷ quote (record {
+      setup = cheapFetch;
+      requests = write 1 12 5 ∷ write 1 12 4 ∷ [];
+      entries = fetchEntry 1 3 ∷ Complete ∷ fetchEntry 0 3 ∷ Complete ∷ writeBackEntry 1 3 ∷ [];
+      number = 0;
+      place = 0;
+      cost = 9;
+      blocks = 0 ∷ 3 ∷ 0 ∷ 3 ∷ [];
+      held = 0 ∷ 1 ∷ 0 ∷ 1 ∷ [];
+      marks = 0 ∷ 0 ∷ 0 ∷ 0 ∷ [];
+    })
+    -- on the pipelined bus a fetch, a write-back and an update by broadcast cost 10
+    ∷ quote (record {
+      setup = pricedBoard 2 2 4 5 5 4;
+      requests = write 1 12 5 ∷ write 1 12 4 ∷ [];
+      entries = fetchEntry 1 3 ∷ Complete ∷ writeBackEntry 1 3 ∷ CompleteByBroadcast ∷ [];
+      number = 0;
+      place = 0;
+      cost = 10;
+      blocks = 0 ∷ 0 ∷ 0 ∷ 3 ∷ [];
+      held = 0 ∷ 0 ∷ 0 ∷ 1 ∷ [];
+      marks = 0 ∷ 0 ∷ 0 ∷ 0 ∷ [];
+    })
+    -- a round of f writes and a read: 2f + f, here 15
+    ∷ quote (record {
+      setup = dearFetch;
+      requests = read 0 2 ∷ read 1 2 ∷ write 0 2 4 ∷ write 0 2 5 ∷ write 0 2 6 ∷ write 0 2 7 ∷ write 0 2 8 ∷ read 1 2 ∷ [];
+      entries = fetchEntry 0 1 ∷ fetchEntry 1 1 ∷ Complete ∷ Complete ∷ dropEntry 1 1 ∷ Complete ∷ Complete ∷ Complete ∷ Complete ∷ Complete ∷ fetchEntry 1 1 ∷ Complete ∷ [];
+      number = 0;
+      place = 0;
+      cost = 15;
+      blocks = 0 ∷ 1 ∷ 0 ∷ 1 ∷ [];
+      held = 0 ∷ 1 ∷ 0 ∷ 1 ∷ [];
+      marks = 0 ∷ 0 ∷ 0 ∷ 0 ∷ [];
+    })
+    -- and 9
+    ∷ quote (record {
+      setup = cheapFetch;
+      requests = read 0 4 ∷ read 1 4 ∷ write 0 4 4 ∷ write 0 4 5 ∷ write 0 4 6 ∷ read 1 4 ∷ [];
+      entries = fetchEntry 0 1 ∷ fetchEntry 1 1 ∷ Complete ∷ Complete ∷ dropEntry 1 1 ∷ Complete ∷ Complete ∷ Complete ∷ fetchEntry 1 1 ∷ Complete ∷ [];
+      number = 0;
+      place = 0;
+      cost = 9;
+      blocks = 0 ∷ 1 ∷ 0 ∷ 1 ∷ [];
+      held = 0 ∷ 1 ∷ 0 ∷ 1 ∷ [];
+      marks = 0 ∷ 0 ∷ 0 ∷ 0 ∷ [];
+    })
+    -- 10 to the pricer: the limits, and each price beyond them
+    ∷ checked (pricedBoard 2 2 2 5 32 32) 4 4 4 0 0 0
+    ∷ checked (pricedBoard 2 2 2 5 32 1) 4 4 4 0 0 0
+    ∷ checked (pricedBoard 2 2 2 5 1 1) 4 4 4 0 0 0
+    ∷ checked (pricedBoard 2 2 2 5 33 1) 4 4 4 0 0 10
+    ∷ checked (pricedBoard 2 2 2 5 0 0) 4 4 4 0 0 10
+    ∷ checked (pricedBoard 2 2 2 5 0 1) 4 4 4 0 0 10
+    ∷ checked (pricedBoard 2 2 2 5 5 0) 4 4 4 0 0 10
+    ∷ checked (pricedBoard 2 2 2 5 5 6) 4 4 4 0 0 10
+    -- 1 before 10, 10 before 2, 10 before 5
+    ∷ checked (pricedBoard 9 2 2 5 33 1) 18 18 18 0 0 1
+    ∷ checked (pricedBoard 2 2 2 5 5 6) 4 3 4 0 0 10
+    ∷ checked (pricedBoard 2 2 2 5 33 1) 4 4 4 4000001 0 10
     ∷ []

@@ -34,7 +34,6 @@ fn added(bill: Bill, more: Bill) -> Bill
 
 // The most cycles that so many requests can cost at a price. The product may need more than 32 bits.
 fn most_cycles(price: u32, requests: u32) -> u64
-    requires { ⌜ price ≤ 16 ⌝ }
     ensures { λ r. ⌜ r ≡ price * requests ⌝ }
 {
     price as u64 * requests as u64
