@@ -1,4 +1,4 @@
--- A run that 1, 2, 20 or 21 refuses leaves tables and account as it met them, and so does a list of such runs.
+-- A run that 1, 10, 2, 20 or 21 refuses leaves tables and account as it met them, and so does a list of such runs.
 use mathlib.Core.Path.{sym, _∙_}
 use mathlib.Core.Bool.{true≢false}
 use Rattle.competitive.specs.Claims.{RefusedAtOnce}

@@ -40,17 +40,17 @@ pub record Claim (s : Setup) (a : Account) (rs : List (Run Request)) : Type 0 wh
   pub halves : (es : List Entry) → Legal s (noCopies s) (takenAll (engine s) (a .requests) rs) es
       → cycles (spent (engine s) (fresh s) (takenAll (engine s) (a .requests) rs)) ≤ 2 * cycles (costs s (noCopies s) (takenAll (engine s) (a .requests) rs) es)
 
--- how near to 2 the factor comes: a list of k × (p + 1) + 2 requests and a schedule for it, which cost 2p + 2pk and 2p + pk
+-- how near to 2 the factor comes: a list of k × (f + 1) + 2 requests and a schedule for it, which cost 2f + 2fk and 2f + fk
 pub record TightList (s : Setup) (k : ℕ) : Type 0 where
   pub requests : List Request
   pub schedule : List Entry
   pub many : length requests ≡ k * (fetchPrice s + 1) + 2
-  -- one run from fresh tables and a fresh account takes it whole, at exactly 2p + 2pk
+  -- one run from fresh tables and a fresh account takes it whole, at exactly 2f + 2fk
   pub whole : (vs : List ℕ) → length vs ≡ length requests → run (engine s) (fresh s) freshAccount requests vs .answer .refusal ≡ noRefusal
   pub count : (vs : List ℕ) → length vs ≡ length requests → run (engine s) (fresh s) freshAccount requests vs .answer .taken ≡ length requests
   pub spends : (vs : List ℕ) → length vs ≡ length requests
       → cyclesOf (run (engine s) (fresh s) freshAccount requests vs .account) ≡ 2 * fetchPrice s + 2 * (fetchPrice s * k)
-  -- the schedule is legal for it, at exactly 2p + pk
+  -- the schedule is legal for it, at exactly 2f + fk
   pub legal : Legal s (noCopies s) requests schedule
   pub pays : cycles (costs s (noCopies s) requests schedule) ≡ 2 * fetchPrice s + fetchPrice s * k
 
@@ -82,7 +82,7 @@ pub record LastValues (s : Setup) : Type 0 where
   pub values : (a : Account) → possible s a ≡ true → (rs : List (Run Request)) → valuesOf (outcomes (engine s) (opening s a) rs) ≡ expectedAll (engine s) expectedValue (a .requests) [] rs
   pub never : (a : Account) → possible s a ≡ true → (rs : List (Run Request)) → Never20Or21 (outcomes (engine s) (opening s a) rs)
 
--- ---- demand 2: "A rival schedule that 1, 2 and 5 let through is accepted if and only if it is legal, at its true cost."
+-- ---- demand 2: "A rival schedule that 1, 2 and 5 let through" (and 10, which acts as 1 does) "is accepted if and only if it is legal, at its true cost."
 
 -- what the rival's tables show of a line, h, b and m being its held mark, block number and dirty mark: "with empty lines all 0"
 pub record LineShown (h b m : ℕ) : Type 0 where
@@ -107,7 +107,7 @@ pub record JudgedRight (s : Setup) (qs : List Request) (es : List Entry) : Type 
   pub accepts : Legal s (noCopies s) qs es → verdict s qs es ≡ accepted (lastCopies s (noCopies s) qs es) (costs s (noCopies s) qs es)
   pub only : (r : Rival) (c : Bill) → verdict s qs es ≡ accepted r c → Legal s (noCopies s) qs es
 
--- ---- runs that 1, 2, 20 or 21 refuses at once add nothing, so that 'any list of runs' has no gap: of every setup and every state
+-- ---- runs that 1, 10, 2, 20 or 21 refuses at once add nothing, so that 'any list of runs' has no gap: of every setup and every state
 
 pub record RefusedAtOnce (s : Setup) : Type 0 where
   pub by-setup : setupRefusal s ≢ noRefusal → (w : State Tables) (rs : List (Run Request)) → runs (engine s) w rs ≡ w

@@ -36,6 +36,6 @@ unfoldable pub priceInNumbers : Setup → Rival → List ℕ → List ℕ → Pr
 priceInNumbers s lent ns ms =
     cond (bothWhole ns ms) (priceNumbers s lent (requestsOf ns) (entriesOf ms)) (numbered (partialRefusal s) 0 0)
 
--- the lent tables after it: "A refusal by 1, 2 … changes no buffer"
+-- the lent tables after it: "A refusal by 1, 2 … changes no buffer", nor does 10
 unfoldable pub priceTablesOfNumbers : Setup → Rival → List ℕ → List ℕ → Rival
 priceTablesOfNumbers s lent ns ms = cond (bothWhole ns ms) (priceTables s lent (requestsOf ns) (entriesOf ms)) lent

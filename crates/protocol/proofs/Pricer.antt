@@ -1,4 +1,4 @@
--- What is known where 1, 2 and 5 let the lists through; and a price in the paper's numbers: what the definition by numbers gives is what the answer's cases say.
+-- What is known where 1, 10, 2 and 5 let the lists through; and a price in the paper's numbers: what the definition by numbers gives is what the answer's cases say.
 use Prim.Native.Nat.{ℕ, _≤_}
 use mathlib.Core.Path.{_≡_, refl, ap, _∙_}
 use mathlib.Core.Bool.{Bool, true, false, _&&_, cond}
@@ -20,7 +20,7 @@ use Rattle.protocol_types.proofs.Laws.{both-true, three-true, chosen-zero}
 use Rattle.protocol_types.proofs.Board.{setup-fits}
 use Rattle.protocol_types.proofs.Refusals.{neither-refuses}
 
--- ---- 1, 2 and 5
+-- ---- 1, 10, 2 and 5
 
 rival-sized : (s : Setup) (r : Rival) → rivalSized s r ≡ true → RivalSized s r
 unfolding rivalSized
@@ -28,7 +28,7 @@ rival-sized s r e =
     let size = three-true _ _ _ e in
     record { blocks = eqb-true _ _ (size .0); held = eqb-true _ _ (size .1); marks = eqb-true _ _ (size .2) }
 
--- what 1, 2 and 5 let through
+-- what 1, 10, 2 and 5 let through
 pub record PricePassed (s : Setup) (r : Rival) (n m : ℕ) : Type 0 where
   pub fits : Fits s
   pub sized : RivalSized s r

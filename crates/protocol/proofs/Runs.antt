@@ -1,4 +1,4 @@
--- What is known where 1, 2, 20 and 21 let a run through. From the laws of orders of refusals.
+-- What is known where 1, 10, 2, 20 and 21 let a run through. From the laws of orders of refusals.
 use Prim.Native.Nat.{ℕ}
 use mathlib.Core.Path.{_≡_}
 use mathlib.Core.Bool.{true, _&&_}

@@ -40,7 +40,7 @@ judged s r qs (e ∷ es) n c =
 unfoldable pub verdict : Setup → List Request → List Entry → Verdict
 verdict s qs es = judged s (noCopies s) qs es 0 nothing
 
--- ---- the pricer checks 1, 2, 5, in this order
+-- ---- the pricer checks 1, 10, 2, 5, in this order
 
 -- "over 1,000,000 requests or 4,000,000 entries"
 abbrev pub priceRequestLimit : ℕ
@@ -74,7 +74,7 @@ abbrev pub copiesAfter : Setup → Verdict → Rival
 copiesAfter s (accepted r c) = r
 copiesAfter s (refused n k) = noCopies s
 
--- "A refusal by 1, 2, 5 … changes no buffer"; "Any later refusal of the pricer zeroes its tables"
+-- "A refusal by 1, 2, 5 … changes no buffer", and 10 acts as 1 does; "Any later refusal of the pricer zeroes its tables"
 unfoldable pub priceTables : Setup → Rival → List Request → List Entry → Rival
 priceTables s lent qs es = cond (eqb (priceRefusal s lent (length es) (length qs)) noRefusal) (copiesAfter s (verdict s qs es)) lent
 

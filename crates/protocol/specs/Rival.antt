@@ -120,7 +120,7 @@ abbrev pub completionNext : Setup → Rival → List Request → Bool → ℕ
 completionNext s r [] byBroadcast = 0
 completionNext s r (q ∷ qs) byBroadcast = completionCycles s r q byBroadcast
 
--- a fetch p, a write-back p, a drop 0
+-- a fetch f, a write-back g, a drop 0
 abbrev pub cost : Setup → Rival → List Request → Entry → Bill
 cost s r qs (Fetch i b) = record { fetch = fetchPrice s; «write_back» = 0; update = 0 }
 cost s r qs (WriteBack i b) = record { fetch = 0; «write_back» = writeBackPrice s; update = 0 }

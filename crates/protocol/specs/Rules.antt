@@ -23,7 +23,7 @@ unfoldable pub emptied : Setup → Tables → ℕ → Tables
 emptied s t k =
     tables (set (t .blocks) k 0) (set (t .counters) k 0) (set (t .marks) k 0) (sets (t .words) (wordIndex s k 0) (zeros (s .words))) (t .memory)
 
--- slot k gets block b: counter p, mark 0 and memory's words
+-- slot k gets block b: counter f, mark 0 and memory's words
 unfoldable pub filled : Setup → Tables → ℕ → Block → Tables
 filled s t k b =
     tables (set (t .blocks) k (b .0)) (set (t .counters) k (fetchPrice s)) (set (t .marks) k 0)
@@ -35,7 +35,7 @@ filled s t k b =
 unfoldable pub saved : Setup → Tables → ℕ → Tables
 saved s t k = cond (marked t k) (writtenBack s t k) t
 
--- p cycles if marked; if not, it goes for nothing
+-- g cycles if marked; if not, it goes for nothing
 unfoldable pub saveCycles : Setup → Tables → ℕ → ℕ
 saveCycles s t k = cond (marked t k) (writeBackPrice s) 0
 
@@ -73,7 +73,7 @@ writeBackCycles s t i b = cond (holds s t i b) 0 (saveCycles s t (slot s i b))
 unfoldable pub payer : Setup → Tables → ℕ → Block → ℕ
 payer s t i b = other (s .processors) i (λ j. holds s t j b)
 
--- rule 4, no other holder: slot k's counter becomes p, its word changes and it is marked
+-- rule 4, no other holder: slot k's counter becomes f, its word changes and it is marked
 unfoldable pub writtenAlone : Setup → Tables → ℕ → ℕ → ℕ → Tables
 writtenAlone s t k o x =
     tables (t .blocks) (set (t .counters) k (fetchPrice s)) (set (t .marks) k 1) (set (t .words) (wordIndex s k o) x) (t .memory)
@@ -84,7 +84,7 @@ updatedCopies s t b o x zero = t .words
 updatedCopies s t b o x (suc n) =
     cond (holds s t n b) (set (updatedCopies s t b o x n) (wordIndex s (slot s n b) o) x) (updatedCopies s t b o x n)
 
--- rule 5, another holder: slot k's counter becomes p, and the word changes in every copy and in memory; marks stay
+-- rule 5, another holder: slot k's counter becomes f, and the word changes in every copy and in memory; marks stay
 unfoldable pub broadcast : Setup → Tables → ℕ → Block → ℕ → ℕ → Tables
 broadcast s t k b o x =
     tables (t .blocks) (set (t .counters) k (fetchPrice s)) (t .marks) (updatedCopies s t b o x (s .processors))

@@ -18,7 +18,7 @@ use Rattle.protocol_types.specs.declared.Block.{Block}
 use Rattle.protocol_types.specs.declared.Request.{Request}
 use Rattle.protocol_types.specs.declared.Account.{Account}
 
--- ---- starting: checks 1, 2
+-- ---- starting: checks 1, 10, 2
 
 unfoldable pub startRefusal : Setup → Tables → ℕ
 startRefusal s t =
@@ -31,7 +31,7 @@ started s t = cond (eqb (startRefusal s t) noRefusal) (fresh s) t
 
 -- ---- a look
 
--- the part of the lent words that is block b in processor i's cache; empty if 1, 2, 3 or 8 would apply, or if i does not hold b
+-- the part of the lent words that is block b in processor i's cache; empty if 1, 10, 2, 3 or 8 would apply, or if i does not hold b
 unfoldable pub looked : Setup → List ℕ → List ℕ → List ℕ → ℕ → Block → List ℕ
 looked s blocks counters words i b =
     cond
@@ -40,7 +40,7 @@ looked s blocks counters words i b =
     && ltb i (s .processors) && ltb (b .0) (s .blocks) && holds s (directory blocks counters) i b)
     (part words (wordIndex s (slot s i b) 0) (s .words)) []
 
--- ---- a run checks 1, 2, 20, 21, in this order, before its first request
+-- ---- a run checks 1, 10, 2, 20, 21, in this order, before its first request
 
 -- a run of n requests
 unfoldable pub runRefusal : Setup → Tables → Account → ℕ → List ℕ → ℕ

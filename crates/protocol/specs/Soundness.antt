@@ -14,7 +14,7 @@ use Rattle.protocol_types.specs.declared.Block.{Block}
 
 -- slot k, with counter c, block b, mark m and words w, and the block's words g in main memory
 pub record SlotSound (s : Setup) (k c : ℕ) (b : Block) (m : ℕ) (w g : ℕ → ℕ) : Type 0 where
-  -- every counter is at most p
+  -- every counter is at most f
   pub bounded : c ≤ fetchPrice s
   -- empty lines are all 0
   pub no-block : c ≡ 0 → b .0 ≡ 0
@@ -25,7 +25,7 @@ pub record SlotSound (s : Setup) (k c : ℕ) (b : Block) (m : ℕ) (w g : ℕ �
   pub proper : 0 < c → k % s .lines ≡ lineOf s b
   -- marks are 0 or 1
   pub mark-le : m ≤ 1
-  -- a marked block has counter p
+  -- a marked block has counter f
   pub full : m ≡ 1 → c ≡ fetchPrice s
   -- an unmarked copy equals main memory
   pub clean : m ≡ 0 → 0 < c → (o : ℕ) → o < s .words → w o ≡ g o
@@ -48,7 +48,7 @@ pub record Sound (s : Setup) (t : Tables) : Type 0 where
 unfoldable pub emptyLine : Setup → Tables → ℕ → Bool
 emptyLine s t k = eqb (block t k .0) 0 && eqb (mark t k) 0 && all (s .words) (λ o. eqb (word s t k o) 0)
 
--- an unmarked copy equals main memory; a marked block has counter p and no holder but processor i
+-- an unmarked copy equals main memory; a marked block has counter f and no holder but processor i
 unfoldable pub copyLine : Setup → Tables → ℕ → ℕ → Bool
 copyLine s t i k =
     cond (eqb (mark t k) 0)

@@ -220,7 +220,7 @@ fn few_enough(entries: usize, requests: usize) -> bool
     entries <= PRICE_ENTRY_LIMIT
 }
 
-// 1, 2, 5 for lists of these lengths.
+// 1, 10, 2, 5 for lists of these lengths.
 pub fn price_refusal(
     setup: Setup,
     blocks: &[u32],

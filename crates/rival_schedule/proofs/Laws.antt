@@ -21,7 +21,7 @@ use Rattle.protocol_types.proofs.Laws.{choice}
 use Rattle.rival_copies.specs.Copies.{completion}
 use Rattle.rival_pricing.specs.Stages.{awaits, broadcasts, PriceStage, priceStage, pricingAt, advanced, waiting, pricingStopped, rejected, reached, priceTurned, priceBegun, took}
 
--- ---- 1, 2 and 5
+-- ---- 1, 10, 2 and 5
 
 module _ (s : Setup) (r : Rival) (n m x : ℕ) (is : x ≡ priceRefusal s r n m) where
   pub start-refused : x ≢ 0 → priceStage (pricingStopped (pricingAt n m 0 0 0) x 0) r ≡ priceBegun s r n m

@@ -23,7 +23,7 @@ ghost use mathlib.Core.Path.{_≡_};
 ghost use Rattle.rival_copies.specs.Copies.{rivalLent, rivalBefore, rivalAfter};
 ghost use Rattle.rival_pricing.specs.Stages.{priceStage, priceBegun, took, completed, PriceReady, Due};
 
-// Before the first entry: 1, 2 and 5 change no table; else the tables are cleared.
+// Before the first entry: 1, 10, 2 and 5 change no table; else the tables are cleared.
 pub fn begin<'a>(
     setup: Setup,
     blocks: &'a mut [u32],

@@ -1,4 +1,4 @@
--- The look, at the setup of the four numbers (setup_of).
+-- The look, at the setup of the six numbers (setup_of).
 use borrow.Author.Needs.{needs}
 use Rattle.host.proofs.cuzkelor_look_offset.Statement.{statement}
 use Rattle.host.proofs.cuzkelor_look_offset.Tie as tie

@@ -1,4 +1,4 @@
--- The price over numbers, at the setup of the four numbers (setup_of); its answer is stored number by number.
+-- The price over numbers, at the setup of the six numbers (setup_of); its answer is stored number by number.
 use mathlib.Core.Path.{_∙_}
 use Rattle.protocol.specs.Pricer.{numbered}
 use borrow.Author.Needs.{needs}

@@ -1,4 +1,4 @@
--- The run over numbers, at the setup of the four numbers (setup_of).
+-- The run over numbers, at the setup of the six numbers (setup_of).
 use mathlib.Core.Path.{ap, _∙_}
 use denote.Ref.{now}
 use Rattle.protocol.specs.Tables.{tables}

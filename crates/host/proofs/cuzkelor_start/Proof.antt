@@ -1,4 +1,4 @@
--- Starting, at the setup of the four numbers (setup_of).
+-- Starting, at the setup of the six numbers (setup_of).
 use borrow.Author.Needs.{needs}
 use Rattle.host.proofs.cuzkelor_start.Statement.{statement}
 use Rattle.host.proofs.cuzkelor_start.Tie as tie

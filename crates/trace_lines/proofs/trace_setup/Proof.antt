@@ -1,4 +1,4 @@
--- The four numbers, as `traceSetup` has them.
+-- The six numbers, as `traceSetup` has them.
 use mathlib.Core.Path.{refl}
 use Rattle.trace_lines.specs.Trace.{traceSetup}
 use Rattle.trace_lines.proofs.trace_setup.Statement.{statement}
