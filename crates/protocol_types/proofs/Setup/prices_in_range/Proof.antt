@@ -1,13 +1,17 @@
 -- f is within 1 to 32 and g within 1 to f, or the first that is not decides.
+use mathlib.Core.Path.{_≡_}
+use mathlib.Core.Bool.{false}
 use borrow.Author.Needs.{needs}
-use Rattle.protocol_types.specs.Board.{pricesInRange}
+use Rattle.protocol_types.specs.Board.{within, priceLimit, pricesInRange}
 use Rattle.protocol_types.proofs.Laws.{failed, passed}
 use Rattle.protocol_types.proofs.Setup.prices_in_range.Statement.{statement}
 use Rattle.protocol_types.proofs.Setup.prices_in_range.Tie as tie
 
 returns : tie.Need-returns
 unfolding pricesInRange
-returns c = simp (failed (c .before .is-within .ensures) (c .if1 .taken))
+returns c =
+    let f : within priceLimit (c .before .before .args .self .«fetch_price») ≡ false = failed (c .before .is-within .ensures) (c .if1 .taken) in
+    simp f
 
 returns-2 : tie.Need-returns-2
 unfolding pricesInRange
