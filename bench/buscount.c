@@ -3,7 +3,7 @@
 #include <stdio.h>
 #include <string.h>
 
-enum { N = 4, L = 8, P = 4, M = 64, WIDTH = 80, LIMIT = 1000000 };
+enum { N = 4, L = 8, P = 4, M = 64, FETCH_PRICE = 4, WRITE_BACK_PRICE = 4, WIDTH = 80, LIMIT = 1000000 };
 
 static uint32_t block[N][L], counter[N][L], mark[N][L], words[N][L][P], memory[M][P];
 static uint32_t requests, fetch_cycles, write_back_cycles, update_cycles;
@@ -25,15 +25,15 @@ static void obtain(int i, uint32_t b) {
     if (holds(i, b)) return;
     if (mark[i][l]) {
         write_back(i, l);
-        write_back_cycles += P;
+        write_back_cycles += WRITE_BACK_PRICE;
     }
     for (int j = 0; j < N; j++)
         if (j != i && holds(j, b) && mark[j][l]) write_back(j, l);
     block[i][l] = b;
-    counter[i][l] = P;
+    counter[i][l] = FETCH_PRICE;
     mark[i][l] = 0;
     memcpy(words[i][l], memory[b], sizeof words[i][l]);
-    fetch_cycles += P;
+    fetch_cycles += FETCH_PRICE;
 }
 
 static void put(int i, uint32_t b, uint32_t o, uint32_t x) {
@@ -44,7 +44,7 @@ static void put(int i, uint32_t b, uint32_t o, uint32_t x) {
             payer = j;
             break;
         }
-    counter[i][l] = P;
+    counter[i][l] = FETCH_PRICE;
     if (payer == N) {
         words[i][l][o] = x;
         mark[i][l] = 1;

@@ -7,6 +7,8 @@ const
   N = 4;
   L = 8;
   P = 4;
+  FetchPrice = 4;
+  WriteBackPrice = 4;
   M = 64;
   Width = 80;
   Limit = 1000000;
@@ -42,15 +44,15 @@ begin
   if marks[i, k] <> 0 then
   begin
     Save(i, k);
-    writeBacks := writeBacks + P;
+    writeBacks := writeBacks + WriteBackPrice;
   end;
   for j := 0 to N - 1 do
     if (j <> i) and Holds(j, b) and (marks[j, k] <> 0) then Save(j, k);
   blocks[i, k] := b;
-  counters[i, k] := P;
+  counters[i, k] := FetchPrice;
   marks[i, k] := 0;
   words[i, k] := memory[b];
-  fetches := fetches + P;
+  fetches := fetches + FetchPrice;
 end;
 
 procedure Put(i, b, o, x: longword);
@@ -65,7 +67,7 @@ begin
       payer := j;
       break;
     end;
-  counters[i, k] := P;
+  counters[i, k] := FetchPrice;
   if payer = N then
   begin
     words[i, k][o] := x;

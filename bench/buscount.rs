@@ -4,6 +4,8 @@ use std::io::{self, Read};
 const N: usize = 4;
 const L: usize = 8;
 const P: usize = 4;
+const FETCH_PRICE: u32 = 4;
+const WRITE_BACK_PRICE: u32 = 4;
 const M: usize = 64;
 const WIDTH: usize = 80;
 const LIMIT: u32 = 1_000_000;
@@ -44,21 +46,21 @@ impl Board {
         }
         if self.caches[i][l].mark {
             self.save(i, l);
-            self.write_back += P as u32;
+            self.write_back += WRITE_BACK_PRICE;
         }
         for j in 0..N {
             if j != i && self.holds(j, b) && self.caches[j][l].mark {
                 self.save(j, l);
             }
         }
-        self.caches[i][l] = Line { block: b as u32, counter: P as u32, mark: false, words: self.memory[b] };
-        self.fetch += P as u32;
+        self.caches[i][l] = Line { block: b as u32, counter: FETCH_PRICE, mark: false, words: self.memory[b] };
+        self.fetch += FETCH_PRICE;
     }
 
     fn put(&mut self, i: usize, b: usize, o: usize, x: u32) {
         let l = b % L;
         let payer = (0..N).find(|&j| j != i && self.holds(j, b));
-        self.caches[i][l].counter = P as u32;
+        self.caches[i][l].counter = FETCH_PRICE;
         match payer {
             None => {
                 self.caches[i][l].words[o] = x;
