@@ -197,6 +197,20 @@ refusedAt s qs es n k =
     let zeros : List ℕ = replicate (s .processors * s .lines) 0 in
     quote (record { setup = s; requests = qs; entries = es; number = n; place = k; cost = 0; blocks = zeros; held = zeros; marks = zeros })
 
+-- a setup that n refuses, to a run and to starting, and that a look shows nothing of: with tables of N 2, L 2, p 2 and M 5 that hold block 3
+abbrev pub setupRefused : Setup → ℕ → Row
+setupRefused s n = lent (record {
+  setup = s;
+  account = account 3 0 0 0;
+  values = 9 ∷ [];
+  runRefusal = n;
+  startRefusal = n;
+  tables = tables (4 ∷ 3 ∷ 4 ∷ 0 ∷ []) (1 ∷ 2 ∷ 2 ∷ 0 ∷ []) (0 ∷ 1 ∷ 0 ∷ 0 ∷ []) (8 ∷ 9 ∷ 5 ∷ 6 ∷ 8 ∷ 9 ∷ 0 ∷ 0 ∷ []) (0 ∷ 0 ∷ 0 ∷ 0 ∷ 0 ∷ 0 ∷ 7 ∷ 7 ∷ 8 ∷ 9 ∷ []);
+  processor = 0;
+  block = 3;
+  seen = [];
+})
+
 -- ---- when a row passes
 
 unfoldable pub sessionPasses : Session → Bool
@@ -1964,77 +1978,17 @@ rows =
       seen = 5 ∷ 6 ∷ [];
     })
     -- 10: f 33; nothing changes, and the look is empty
-    ∷ lent (record {
-      setup = pricedBoard 2 2 2 5 33 2;
-      account = account 3 0 0 0;
-      values = 9 ∷ [];
-      runRefusal = 10;
-      startRefusal = 10;
-      tables = tables (4 ∷ 3 ∷ 4 ∷ 0 ∷ []) (1 ∷ 2 ∷ 2 ∷ 0 ∷ []) (0 ∷ 1 ∷ 0 ∷ 0 ∷ []) (8 ∷ 9 ∷ 5 ∷ 6 ∷ 8 ∷ 9 ∷ 0 ∷ 0 ∷ []) (0 ∷ 0 ∷ 0 ∷ 0 ∷ 0 ∷ 0 ∷ 7 ∷ 7 ∷ 8 ∷ 9 ∷ []);
-      processor = 0;
-      block = 3;
-      seen = [];
-    })
+    ∷ setupRefused (pricedBoard 2 2 2 5 33 2) 10
     -- 10: f 0
-    ∷ lent (record {
-      setup = pricedBoard 2 2 2 5 0 0;
-      account = account 3 0 0 0;
-      values = 9 ∷ [];
-      runRefusal = 10;
-      startRefusal = 10;
-      tables = tables (4 ∷ 3 ∷ 4 ∷ 0 ∷ []) (1 ∷ 2 ∷ 2 ∷ 0 ∷ []) (0 ∷ 1 ∷ 0 ∷ 0 ∷ []) (8 ∷ 9 ∷ 5 ∷ 6 ∷ 8 ∷ 9 ∷ 0 ∷ 0 ∷ []) (0 ∷ 0 ∷ 0 ∷ 0 ∷ 0 ∷ 0 ∷ 7 ∷ 7 ∷ 8 ∷ 9 ∷ []);
-      processor = 0;
-      block = 3;
-      seen = [];
-    })
+    ∷ setupRefused (pricedBoard 2 2 2 5 0 0) 10
     -- 10: g 0
-    ∷ lent (record {
-      setup = pricedBoard 2 2 2 5 2 0;
-      account = account 3 0 0 0;
-      values = 9 ∷ [];
-      runRefusal = 10;
-      startRefusal = 10;
-      tables = tables (4 ∷ 3 ∷ 4 ∷ 0 ∷ []) (1 ∷ 2 ∷ 2 ∷ 0 ∷ []) (0 ∷ 1 ∷ 0 ∷ 0 ∷ []) (8 ∷ 9 ∷ 5 ∷ 6 ∷ 8 ∷ 9 ∷ 0 ∷ 0 ∷ []) (0 ∷ 0 ∷ 0 ∷ 0 ∷ 0 ∷ 0 ∷ 7 ∷ 7 ∷ 8 ∷ 9 ∷ []);
-      processor = 0;
-      block = 3;
-      seen = [];
-    })
+    ∷ setupRefused (pricedBoard 2 2 2 5 2 0) 10
     -- 10: g over f, both from 1 to 32
-    ∷ lent (record {
-      setup = pricedBoard 2 2 2 5 2 3;
-      account = account 3 0 0 0;
-      values = 9 ∷ [];
-      runRefusal = 10;
-      startRefusal = 10;
-      tables = tables (4 ∷ 3 ∷ 4 ∷ 0 ∷ []) (1 ∷ 2 ∷ 2 ∷ 0 ∷ []) (0 ∷ 1 ∷ 0 ∷ 0 ∷ []) (8 ∷ 9 ∷ 5 ∷ 6 ∷ 8 ∷ 9 ∷ 0 ∷ 0 ∷ []) (0 ∷ 0 ∷ 0 ∷ 0 ∷ 0 ∷ 0 ∷ 7 ∷ 7 ∷ 8 ∷ 9 ∷ []);
-      processor = 0;
-      block = 3;
-      seen = [];
-    })
+    ∷ setupRefused (pricedBoard 2 2 2 5 2 3) 10
     -- 10: f and g too large
-    ∷ lent (record {
-      setup = pricedBoard 2 2 2 5 4294967295 4294967295;
-      account = account 3 0 0 0;
-      values = 9 ∷ [];
-      runRefusal = 10;
-      startRefusal = 10;
-      tables = tables (4 ∷ 3 ∷ 4 ∷ 0 ∷ []) (1 ∷ 2 ∷ 2 ∷ 0 ∷ []) (0 ∷ 1 ∷ 0 ∷ 0 ∷ []) (8 ∷ 9 ∷ 5 ∷ 6 ∷ 8 ∷ 9 ∷ 0 ∷ 0 ∷ []) (0 ∷ 0 ∷ 0 ∷ 0 ∷ 0 ∷ 0 ∷ 7 ∷ 7 ∷ 8 ∷ 9 ∷ []);
-      processor = 0;
-      block = 3;
-      seen = [];
-    })
+    ∷ setupRefused (pricedBoard 2 2 2 5 4294967295 4294967295) 10
     -- 1 before 10
-    ∷ lent (record {
-      setup = pricedBoard 2 2 2 257 33 2;
-      account = account 3 0 0 0;
-      values = 9 ∷ [];
-      runRefusal = 1;
-      startRefusal = 1;
-      tables = tables (4 ∷ 3 ∷ 4 ∷ 0 ∷ []) (1 ∷ 2 ∷ 2 ∷ 0 ∷ []) (0 ∷ 1 ∷ 0 ∷ 0 ∷ []) (8 ∷ 9 ∷ 5 ∷ 6 ∷ 8 ∷ 9 ∷ 0 ∷ 0 ∷ []) (0 ∷ 0 ∷ 0 ∷ 0 ∷ 0 ∷ 0 ∷ 7 ∷ 7 ∷ 8 ∷ 9 ∷ []);
-      processor = 0;
-      block = 3;
-      seen = [];
-    })
+    ∷ setupRefused (pricedBoard 2 2 2 257 33 2) 1
     -- 10 before 2
     ∷ lent (record {
       setup = pricedBoard 2 2 2 5 2 3;
