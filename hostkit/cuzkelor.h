@@ -31,7 +31,7 @@ extern "C" {
 /* ---- Numbers ---- */
 
 /* The version of what the archive exports and of what it means. */
-#define CUZKELOR_VERSION 1
+#define CUZKELOR_VERSION 2
 
 /* Why something is refused: name, number, what is refused, the condition in words.
  *
@@ -48,6 +48,7 @@ extern "C" {
     X(CUZKELOR_UNKNOWN_LABEL, 7, PLACE, "a trace label is a digit above 2")                                            \
     X(CUZKELOR_NO_SUCH_BLOCK, 8, PLACE, "no such block")                                                               \
     X(CUZKELOR_READ_BY_BROADCAST, 9, PLACE, "a read is completed by broadcast")                                        \
+    X(CUZKELOR_PRICE_OUT_OF_RANGE, 10, CALL, "the fetch price or the write-back price is out of range")                \
     X(CUZKELOR_UNSOUND_TABLES, 20, CALL, "the tables are not sound")                                                   \
     X(CUZKELOR_IMPOSSIBLE_ACCOUNT, 21, CALL, "the account has more cycles than its requests allow")                    \
     X(CUZKELOR_ACCOUNT_FULL, 22, PLACE, "the account is already at 1,000,000 requests or more")                        \
@@ -83,12 +84,13 @@ enum cuzkelor_record {
     CUZKELOR_ENTRY_NUMBERS = 3
 };
 
-/* The most that each number of a setup may be; the least is 1. */
+/* The most that each number of a setup may be; the least is 1. The most of the write-back price is the fetch price. */
 enum cuzkelor_most {
     CUZKELOR_MOST_PROCESSORS = 8,
     CUZKELOR_MOST_LINES = 64,
     CUZKELOR_MOST_BLOCK_WORDS = 16,
-    CUZKELOR_MOST_BLOCK_COUNT = 256
+    CUZKELOR_MOST_BLOCK_COUNT = 256,
+    CUZKELOR_MOST_FETCH_PRICE = 32
 };
 
 /* The setup of every trace. */
@@ -96,7 +98,9 @@ enum cuzkelor_trace {
     CUZKELOR_TRACE_PROCESSORS = 4,
     CUZKELOR_TRACE_LINES = 8,
     CUZKELOR_TRACE_BLOCK_WORDS = 4,
-    CUZKELOR_TRACE_BLOCK_COUNT = 64
+    CUZKELOR_TRACE_BLOCK_COUNT = 64,
+    CUZKELOR_TRACE_FETCH_PRICE = 4,
+    CUZKELOR_TRACE_WRITE_BACK_PRICE = 4
 };
 
 /* Lengths as constants, for arrays. Block numbers, counters and marks (of a rival: block numbers, held and marks) have
@@ -108,78 +112,85 @@ enum cuzkelor_trace {
 
 /* ---- What the archive exports ----
  *
- * A setup is four numbers: processors, lines in each cache, words in a block, blocks. The tables go processor by
- * processor and line by line: a block's line in a processor's cache is slot processor x lines + block mod lines, and
- * its words begin at slot x block_words. Counter 0 means an empty line. Variable v is word v of memory; it lies in
- * block v / block_words, rounded down.
+ * A setup is six numbers: four sizes, which are processors, lines in each cache, words in a block and blocks, and two
+ * prices, which may be anything in their ranges whatever the sizes are. 1 meets a size out of range, 10 a price. A
+ * fetch costs fetch_price cycles, a write-back write_back_price and an update 1, in a run and in a rival's schedule
+ * alike.
  *
- * Tables are sound, as start and run leave them, if every counter is at most block_words; the block number, mark and
+ * The tables go processor by processor and line by line: a block's line in a processor's cache is slot processor x
+ * lines + block mod lines, and its words begin at slot x block_words. Counter 0 means an empty line; a fetch and a
+ * write by its processor set a line's counter to fetch_price. Variable v is word v of memory; it lies in block
+ * v / block_words, rounded down.
+ *
+ * Tables are sound, as start and run leave them, if every counter is at most fetch_price; the block number, mark and
  * words of an empty line are 0; a held block is below block_count and in its line; marks are 0 or 1; a marked block has
- * counter block_words and one holder; an unmarked copy equals memory. */
+ * counter fetch_price and one holder; an unmarked copy equals memory. */
 
 /* The version of this archive: CUZKELOR_VERSION of the header that belongs to it. */
 uint32_t cuzkelor_version(void);
 
-/* Fills all tables with 0. Checks 1, 2; a refusal changes no table. */
+/* Fills all tables with 0. Checks 1, 10, 2; a refusal changes no table. */
 uint32_t cuzkelor_start(uint32_t processors, uint32_t lines, uint32_t block_words, uint32_t block_count,
-                        uint32_t *blocks, size_t blocks_length, uint32_t *counters, size_t counters_length,
-                        uint32_t *marks, size_t marks_length, uint32_t *words, size_t words_length,
-                        uint32_t *memory, size_t memory_length);
+                        uint32_t fetch_price, uint32_t write_back_price, uint32_t *blocks, size_t blocks_length,
+                        uint32_t *counters, size_t counters_length, uint32_t *marks, size_t marks_length,
+                        uint32_t *words, size_t words_length, uint32_t *memory, size_t memory_length);
 
-/* Where in words the copy of a block in a processor's cache begins. 0 if 1, 2 (of these three tables), 3 or 8 would
+/* Where in words the copy of a block in a processor's cache begins. 0 if 1, 10, 2 (of these three tables), 3 or 8 would
  * apply, or if the line's counter is 0 or it names another block; but 0 is also where the first copy begins, so ask for
  * the length. Soundness plays no part. */
 size_t cuzkelor_look_offset(uint32_t processors, uint32_t lines, uint32_t block_words, uint32_t block_count,
-                            const uint32_t *blocks, size_t blocks_length, const uint32_t *counters,
-                            size_t counters_length, const uint32_t *words, size_t words_length, uint32_t processor,
-                            uint32_t block);
+                            uint32_t fetch_price, uint32_t write_back_price, const uint32_t *blocks,
+                            size_t blocks_length, const uint32_t *counters, size_t counters_length,
+                            const uint32_t *words, size_t words_length, uint32_t processor, uint32_t block);
 
 /* How many words that copy has: block_words, or 0 if one of the same conditions is met. */
 size_t cuzkelor_look_length(uint32_t processors, uint32_t lines, uint32_t block_words, uint32_t block_count,
-                            const uint32_t *blocks, size_t blocks_length, const uint32_t *counters,
-                            size_t counters_length, const uint32_t *words, size_t words_length, uint32_t processor,
-                            uint32_t block);
+                            uint32_t fetch_price, uint32_t write_back_price, const uint32_t *blocks,
+                            size_t blocks_length, const uint32_t *counters, size_t counters_length,
+                            const uint32_t *words, size_t words_length, uint32_t processor, uint32_t block);
 
 /* Serves requests in turn, to the first refused one, and adds to the account: 1 to its requests for each one taken, and
  * the cycles of each kind. A request is four numbers: processor, operation, variable, value (of a read it plays no
  * part). values has one word for each request, which gets the value supplied or written.
  *
- * Checks 1, 2, 20, 21, then for each request 3, 4, 22. 2 also meets a list that is no whole number of requests, and
- * values of another length than the list. 21: fetch or write-back cycles over block_words x requests, or update cycles
- * over requests.
+ * Checks 1, 10, 2, 20, 21, then for each request 3, 4, 22. 2 also meets a list that is no whole number of requests, and
+ * values of another length than the list. 21: fetch cycles over fetch_price x requests, write-back cycles over
+ * write_back_price x requests, or update cycles over requests; no product overflows.
  *
- * No refusal: taken is the number of requests, place is 0. By 1, 2, 20 or 21: taken and place are 0, nothing lent
+ * No refusal: taken is the number of requests, place is 0. By 1, 10, 2, 20 or 21: taken and place are 0, nothing lent
  * changes. By 3, 4 or 22: taken and place are both the refused request's place; tables and account are as the requests
  * before it left them, and values from that place on are untouched. */
 uint32_t cuzkelor_run(uint32_t processors, uint32_t lines, uint32_t block_words, uint32_t block_count,
-                      uint32_t *blocks, size_t blocks_length, uint32_t *counters, size_t counters_length,
-                      uint32_t *marks, size_t marks_length, uint32_t *words, size_t words_length, uint32_t *memory,
-                      size_t memory_length, uint32_t *account_requests, uint32_t *account_fetch,
-                      uint32_t *account_write_back, uint32_t *account_update, const uint32_t *requests,
-                      size_t requests_length, uint32_t *values, size_t values_length, size_t *taken, size_t *place);
+                      uint32_t fetch_price, uint32_t write_back_price, uint32_t *blocks, size_t blocks_length,
+                      uint32_t *counters, size_t counters_length, uint32_t *marks, size_t marks_length,
+                      uint32_t *words, size_t words_length, uint32_t *memory, size_t memory_length,
+                      uint32_t *account_requests, uint32_t *account_fetch, uint32_t *account_write_back,
+                      uint32_t *account_update, const uint32_t *requests, size_t requests_length, uint32_t *values,
+                      size_t values_length, size_t *taken, size_t *place);
 
 /* Plays a rival's schedule for a list of requests, from empty caches; what the tables hold before plays no part. An
  * entry is three numbers: kind, processor, block; of a completion the last two play no part.
  *
- * Checks 1, 2, 5; at each fetch 3, 8, 23; at each write-back 3, 8, 24; at each drop 3, 8, 24, 25; at each completion
- * 26, then of the request 3, 4, 9, 27; at the end 28. 2 also meets a list that is no whole number of entries or of
- * requests.
+ * Checks 1, 10, 2, 5; at each fetch 3, 8, 23; at each write-back 3, 8, 24; at each drop 3, 8, 24, 25; at each
+ * completion 26, then of the request 3, 4, 9, 27; at the end 28. 2 also meets a list that is no whole number of entries
+ * or of requests.
  *
  * No refusal: place is 0, the tables show the rival's last copies, with empty lines all 0, and cost is the schedule's
- * cycles, the sum of its entries' costs: block_words for a fetch and for a write-back, 0 for a drop and for a completed
- * read, 1 for a write completed by broadcast, and for a write completed otherwise 0 where its block has one holder,
- * else 1. By 1, 2 or 5: place and cost are 0, no table changes. By any other: place is the entry's (28: the number of
- * entries), cost is 0, and the tables are all 0. */
+ * cycles, the sum of its entries' costs: fetch_price for a fetch, write_back_price for a write-back, 0 for a drop and
+ * for a completed read, 1 for a write completed by broadcast, and for a write completed otherwise 0 where its block has
+ * one holder, else 1. By 1, 10, 2 or 5: place and cost are 0, no table changes. By any other: place is the entry's (28:
+ * the number of entries), cost is 0, and the tables are all 0. */
 uint32_t cuzkelor_price(uint32_t processors, uint32_t lines, uint32_t block_words, uint32_t block_count,
-                        uint32_t *blocks, size_t blocks_length, uint32_t *held, size_t held_length, uint32_t *marks,
-                        size_t marks_length, const uint32_t *entries, size_t entries_length,
-                        const uint32_t *requests, size_t requests_length, size_t *place, uint32_t *cost);
+                        uint32_t fetch_price, uint32_t write_back_price, uint32_t *blocks, size_t blocks_length,
+                        uint32_t *held, size_t held_length, uint32_t *marks, size_t marks_length,
+                        const uint32_t *entries, size_t entries_length, const uint32_t *requests,
+                        size_t requests_length, size_t *place, uint32_t *cost);
 
-/* Counts a whole din trace, with 4 processors, 8 lines, 4 words in a block and 64 blocks. It starts the tables itself,
- * and the account is written, not added to. A line is a label of one digit, blanks or tabs, an address of 1 to 8
- * hexadecimal digits, and its end, or a blank, tab or carriage return and ignored text; it has at most 80 bytes without
- * its newline, which the last line may lack. Labels 0 and 2 read, 1 writes the line's number, from 1. The address's top
- * byte is the processor, its low 24 bits divided by 4, rounded down, the variable.
+/* Counts a whole din trace, with 4 processors, 8 lines, 4 words in a block, 64 blocks and both prices 4. It starts the
+ * tables itself, and the account is written, not added to. A line is a label of one digit, blanks or tabs, an address
+ * of 1 to 8 hexadecimal digits, and its end, or a blank, tab or carriage return and ignored text; it has at most 80
+ * bytes without its newline, which the last line may lack. Labels 0 and 2 read, 1 writes the line's number, from 1. The
+ * address's top byte is the processor, its low 24 bits divided by 4, rounded down, the variable.
  *
  * Checks 2, then for each line 6, 7, 3, 4, 22, and stops at the first refused one.
  *
@@ -194,7 +205,7 @@ uint32_t cuzkelor_count_trace(const uint8_t *bytes, size_t bytes_length, uint32_
 /* ---- The same over structs ---- */
 
 typedef struct {
-    uint32_t processors, lines, block_words, block_count;
+    uint32_t processors, lines, block_words, block_count, fetch_price, write_back_price;
 } cuzkelor_setup;
 
 /* Variable numbers and block numbers cannot be taken for one another. */
@@ -315,8 +326,8 @@ static inline int cuzkelor_refuses_call(uint32_t refusal) {
 }
 
 static inline cuzkelor_setup cuzkelor_trace_setup(void) {
-    cuzkelor_setup setup = {CUZKELOR_TRACE_PROCESSORS, CUZKELOR_TRACE_LINES, CUZKELOR_TRACE_BLOCK_WORDS,
-                            CUZKELOR_TRACE_BLOCK_COUNT};
+    cuzkelor_setup setup = {CUZKELOR_TRACE_PROCESSORS,  CUZKELOR_TRACE_LINES,       CUZKELOR_TRACE_BLOCK_WORDS,
+                            CUZKELOR_TRACE_BLOCK_COUNT, CUZKELOR_TRACE_FETCH_PRICE, CUZKELOR_TRACE_WRITE_BACK_PRICE};
     return setup;
 }
 
@@ -334,11 +345,22 @@ static inline size_t cuzkelor_variable_count(cuzkelor_setup setup) {
 }
 
 /* Whether 1 does not meet a setup. */
-static inline int cuzkelor_setup_in_range(cuzkelor_setup setup) {
+static inline int cuzkelor_sizes_in_range(cuzkelor_setup setup) {
     return 1 <= setup.processors && setup.processors <= CUZKELOR_MOST_PROCESSORS && 1 <= setup.lines &&
            setup.lines <= CUZKELOR_MOST_LINES && 1 <= setup.block_words &&
            setup.block_words <= CUZKELOR_MOST_BLOCK_WORDS && 1 <= setup.block_count &&
            setup.block_count <= CUZKELOR_MOST_BLOCK_COUNT;
+}
+
+/* Whether 10 does not meet a setup. */
+static inline int cuzkelor_prices_in_range(cuzkelor_setup setup) {
+    return 1 <= setup.fetch_price && setup.fetch_price <= CUZKELOR_MOST_FETCH_PRICE && 1 <= setup.write_back_price &&
+           setup.write_back_price <= setup.fetch_price;
+}
+
+/* Whether neither of them meets a setup. */
+static inline int cuzkelor_setup_in_range(cuzkelor_setup setup) {
+    return cuzkelor_sizes_in_range(setup) && cuzkelor_prices_in_range(setup);
 }
 
 static inline cuzkelor_variable cuzkelor_make_variable(uint32_t number) {
@@ -392,7 +414,9 @@ static inline cuzkelor_entry cuzkelor_complete_by_broadcast(void) {
 }
 
 /* The arguments that a struct is. */
-#define CUZKELOR_SETUP(setup) (setup).processors, (setup).lines, (setup).block_words, (setup).block_count
+#define CUZKELOR_SETUP(setup)                                                                                          \
+    (setup).processors, (setup).lines, (setup).block_words, (setup).block_count, (setup).fetch_price,                  \
+        (setup).write_back_price
 #define CUZKELOR_NUMBERS(numbers) (numbers).at, (numbers).length
 #define CUZKELOR_TABLES(tables)                                                                                        \
     CUZKELOR_NUMBERS((tables)->blocks), CUZKELOR_NUMBERS((tables)->counters), CUZKELOR_NUMBERS((tables)->marks),       \

@@ -1,4 +1,5 @@
-/* A board of four processors: requests and what they cost, a look into a cache, a rival's schedule and its price.
+/* A board of four processors: requests and what they cost, a look into a cache, a rival's schedule and its price. The
+ * bus is a pipelined one, which charges the address cycle: a fetch of four words costs 5 cycles, a write-back 4.
  *
  * In the project's folder, after `rt staticlib host`:
  *
@@ -9,10 +10,10 @@
 #include <inttypes.h>
 #include <stdio.h>
 
-enum { PROCESSORS = 4, LINES = 8, BLOCK_WORDS = 4, BLOCK_COUNT = 64 };
+enum { PROCESSORS = 4, LINES = 8, BLOCK_WORDS = 4, BLOCK_COUNT = 64, FETCH_PRICE = 5, WRITE_BACK_PRICE = 4 };
 
 /* Nothing is allocated: the tables are arrays of the lengths that the setup requires. */
-static const cuzkelor_setup setup = {PROCESSORS, LINES, BLOCK_WORDS, BLOCK_COUNT};
+static const cuzkelor_setup setup = {PROCESSORS, LINES, BLOCK_WORDS, BLOCK_COUNT, FETCH_PRICE, WRITE_BACK_PRICE};
 static uint32_t blocks[CUZKELOR_SLOT_COUNT(PROCESSORS, LINES)];
 static uint32_t counters[CUZKELOR_SLOT_COUNT(PROCESSORS, LINES)];
 static uint32_t marks[CUZKELOR_SLOT_COUNT(PROCESSORS, LINES)];
@@ -58,20 +59,23 @@ static void price(const cuzkelor_entry entries[], size_t entry_count, const cuzk
 int main(void) {
     cuzkelor_account account = {0, 0, 0, 0};
     cuzkelor_variable flag = cuzkelor_make_variable(3), missing = cuzkelor_make_variable(BLOCK_WORDS * BLOCK_COUNT);
-    cuzkelor_block block = cuzkelor_block_of(setup, flag);
-    cuzkelor_request requests[] = {cuzkelor_write(0, flag, 7), cuzkelor_read(1, flag), cuzkelor_write(0, flag, 8),
-                                   cuzkelor_read(2, missing)};
-    cuzkelor_entry entries[] = {cuzkelor_fetch(0, block), cuzkelor_complete(), cuzkelor_fetch(1, block),
-                                cuzkelor_complete(),      cuzkelor_complete()};
+    cuzkelor_variable other = cuzkelor_make_variable(3 + BLOCK_WORDS * LINES); /* its block has the flag's line */
+    cuzkelor_block block = cuzkelor_block_of(setup, flag), other_block = cuzkelor_block_of(setup, other);
+    cuzkelor_request requests[] = {cuzkelor_write(0, other, 6), cuzkelor_write(0, flag, 7), cuzkelor_read(1, flag),
+                                   cuzkelor_write(0, flag, 8), cuzkelor_read(2, missing)};
+    cuzkelor_entry entries[] = {cuzkelor_fetch(0, other_block), cuzkelor_complete_by_broadcast(),
+                                cuzkelor_drop(0, other_block),  cuzkelor_fetch(0, block),
+                                cuzkelor_complete(),            cuzkelor_fetch(1, block),
+                                cuzkelor_complete(),            cuzkelor_complete()};
     if (!cuzkelor_version_matches()) {
         puts("cuzkelor.h and libhost.a are of different versions");
         return 1;
     }
     report(cuzkelor_start_tables(setup, &tables), 0);
-    run(&account, requests, 4);
+    run(&account, requests, 5);
     look(1, block);
     look(2, block);
-    price(entries, 5, requests, 3);
-    price(entries, 4, requests, 3);
+    price(entries, 8, requests, 4);
+    price(entries, 7, requests, 4);
     return 0;
 }

@@ -1,5 +1,5 @@
-/* Plays the document's sessions, its printed trace, a look and a schedule through the archive from C or C++, and tests
- * the header's numbers, words and lengths. */
+/* Plays the document's sessions, also at other prices, its printed trace, a look and a schedule through the archive
+ * from C or C++, and tests the header's numbers, words, lengths and ranges. */
 #include "../cuzkelor.h"
 #include <stdbool.h>
 #include <stdio.h>
@@ -8,8 +8,13 @@
 
 enum { N = 4, L = 8, P = 4, M = 64, SLOTS = CUZKELOR_SLOT_COUNT(N, L), GARBAGE = 0x5555 };
 
-static const cuzkelor_setup SETUP = {N, L, P, M};
-static const cuzkelor_setup ONE_WORD = {N, L, 1, M};
+static const cuzkelor_setup SETUP = {N, L, P, M, P, P};
+static const cuzkelor_setup ONE_WORD = {N, L, 1, M, 1, 1};
+/* The pipelined bus of document 003, which charges the address cycle of a fetch. */
+static const cuzkelor_setup PIPELINED = {N, L, P, M, 5, 4};
+static const cuzkelor_setup NINE_PROCESSORS = {9, L, P, M, P, P};
+static const cuzkelor_setup DEAR_WRITE_BACK = {N, L, P, M, P, P + 1};
+static const cuzkelor_setup NINE_AND_DEAR = {9, L, P, M, P, P + 1};
 
 /* Tables and account of one host, with room for any setup up to SETUP's. */
 struct host {
@@ -198,6 +203,57 @@ static void s12(void) {
     check(value == GARBAGE && memcmp(&h, &before, sizeof h) == 0, "nothing changes");
 }
 
+/* S3 to S7, with a counter that is full at the fetch price, whatever the words in a block are. */
+static void sessions_at(cuzkelor_setup setup) {
+    struct host h = fresh(setup);
+    struct cycles fetch = {setup.fetch_price, 0, 0}, both = {setup.fetch_price, setup.write_back_price, 0};
+    writes(&h, 0, 0, 7, fetch);
+    check(line_0(&h, 0, setup.fetch_price, 1), "marked, counter full");
+    reads(&h, 1, 0, 7, fetch);
+    for (uint32_t left = setup.fetch_price; left > 0; left--) {
+        check(line_0(&h, 1, left, 0), "the payer's counter");
+        writes(&h, 0, 0, left, UPDATE);
+    }
+    check(line_0(&h, 1, 0, 0), "the last update empties 1's line");
+    writes(&h, 0, 0, 9, NOTHING);
+    reads(&h, 0, 32, 0, both);
+    check(h.memory[0] == 9, "written back");
+}
+
+static void prices(void) {
+    cuzkelor_setup below = {N, L, P, M, 2, 1}, least = {N, L, P, M, 1, 1}, most = {N, L, P, M, 32, 32};
+    sessions_at(PIPELINED);
+    sessions_at(below);
+    sessions_at(least);
+    sessions_at(most);
+}
+
+static bool possible(uint32_t requests, struct cycles cycles) {
+    struct host h = fresh(PIPELINED);
+    cuzkelor_account account = {requests, cycles.fetch, cycles.write_back, cycles.update};
+    cuzkelor_tables tables = tables_of(&h);
+    cuzkelor_request none;
+    uint32_t value;
+    uint32_t refusal = cuzkelor_run_requests(PIPELINED, &tables, &account, &none, 0, &value, 0).refusal;
+    check(refusal == CUZKELOR_NO_REFUSAL || refusal == CUZKELOR_IMPOSSIBLE_ACCOUNT, "21 or nothing");
+    return refusal == CUZKELOR_NO_REFUSAL;
+}
+
+static void account_limits(void) {
+    static const uint32_t counts[] = {0, 1, 999999, 800000000};
+    for (size_t k = 0; k < sizeof counts / sizeof counts[0]; k++) {
+        uint32_t requests = counts[k];
+        struct cycles most = {5 * requests, 4 * requests, requests}, fetch = most, write_back = most, update = most;
+        fetch.fetch++;
+        write_back.write_back++;
+        update.update++;
+        check(possible(requests, most) && !possible(requests, fetch), "5 fetch cycles a request");
+        check(!possible(requests, write_back) && !possible(requests, update), "4 write-back cycles, 1 update");
+    }
+    struct cycles any = {UINT32_MAX, UINT32_MAX, UINT32_MAX};
+    check(possible(UINT32_MAX, any), "products over 32 bits");
+}
+
 static void limits(void) {
     struct host h = fresh(SETUP);
     uint32_t value;
@@ -205,16 +261,21 @@ static void limits(void) {
     cuzkelor_run_answer answer = try_one(&h, cuzkelor_read(0, cuzkelor_make_variable(256)), &value);
     check(answer.refusal == CUZKELOR_NO_SUCH_VARIABLE, "variable 256");
     cuzkelor_tables tables = tables_of(&h);
-    cuzkelor_setup nine = {9, L, P, M};
-    check(cuzkelor_start_tables(nine, &tables) == CUZKELOR_SETUP_OUT_OF_RANGE, "nine processors");
+    struct host before = h;
+    check(cuzkelor_start_tables(NINE_PROCESSORS, &tables) == CUZKELOR_SETUP_OUT_OF_RANGE, "nine processors");
+    check(cuzkelor_start_tables(DEAR_WRITE_BACK, &tables) == CUZKELOR_PRICE_OUT_OF_RANGE, "a dear write-back");
+    check(cuzkelor_start_tables(NINE_AND_DEAR, &tables) == CUZKELOR_SETUP_OUT_OF_RANGE, "1 comes before 10");
     tables.marks.length--;
     check(cuzkelor_start_tables(SETUP, &tables) == CUZKELOR_WRONG_LENGTH, "marks too short");
+    check(cuzkelor_start_tables(DEAR_WRITE_BACK, &tables) == CUZKELOR_PRICE_OUT_OF_RANGE, "10 comes before 2");
+    check(memcmp(&h, &before, sizeof h) == 0, "no table changes");
 }
 
 static void printed_trace(void) {
     static const char trace[] = "0 00000000\n0 01000000\n1 00000000\n1 4\n";
     struct host h = fresh(cuzkelor_trace_setup());
     cuzkelor_tables tables = tables_of(&h);
+    check(memcmp(&h.setup, &SETUP, sizeof SETUP) == 0, "the setup of every trace");
     cuzkelor_report report = cuzkelor_count_din(&tables, trace, sizeof trace - 1);
     cuzkelor_account account = {4, 8, 0, 2};
     check(report.refusal == 0 && report.line == 0, "ended 0 0");
@@ -237,6 +298,8 @@ static void a_look(void) {
     check(cuzkelor_look(SETUP, &tables, 1, block).length == 0, "not by 1");
     part = cuzkelor_look(SETUP, &tables, 0, cuzkelor_make_block(0));
     check(part.length == P && part.at[0] == 7, "block 0 shows the word written");
+    check(cuzkelor_look(PIPELINED, &tables, 2, block).length == P, "at other prices too");
+    check(cuzkelor_look(DEAR_WRITE_BACK, &tables, 2, block).length == 0, "but not at prices out of range");
 }
 
 static void a_schedule(void) {
@@ -251,63 +314,44 @@ static void a_schedule(void) {
     memset(blocks, 0x77, sizeof blocks);
     memset(held, 0x77, sizeof held);
     memset(marks, 0x77, sizeof marks);
-    cuzkelor_price_answer answer = cuzkelor_price_schedule(SETUP, &rival, entries, 7, requests, 3);
-    check(answer.refusal == 0 && answer.place == 0 && answer.cost == 4 + 0 + 4 + 1 + 0 + 0 + 4, "the cost");
+    cuzkelor_price_answer answer = cuzkelor_price_schedule(PIPELINED, &rival, entries, 7, requests, 3);
+    check(answer.refusal == 0 && answer.place == 0 && answer.cost == 5 + 0 + 5 + 1 + 0 + 0 + 5, "the cost");
     check(held[0] == 0 && held[L] == 1 && marks[L] == 1, "1 holds block 0, marked");
     check(held[2 * L + 1] == 1 && blocks[2 * L + 1] == 9 && marks[2 * L + 1] == 0, "2 holds block 9");
-    answer = cuzkelor_price_schedule(SETUP, &rival, entries, 8, requests, 3);
+    answer = cuzkelor_price_schedule(PIPELINED, &rival, entries, 8, requests, 3);
     check(answer.refusal == CUZKELOR_DROP_OF_MARKED && answer.place == 7 && answer.cost == 0, "25 at 7");
     check(held[L] == 0 && blocks[2 * L + 1] == 0, "tables all 0");
     entries[7] = cuzkelor_write_back(1, zero);
-    answer = cuzkelor_price_schedule(SETUP, &rival, entries, 8, requests, 3);
-    check(answer.refusal == 0 && answer.cost == 17 && marks[L] == 0, "written back");
+    answer = cuzkelor_price_schedule(PIPELINED, &rival, entries, 8, requests, 3);
+    check(answer.refusal == 0 && answer.cost == 16 + 4 && marks[L] == 0, "written back");
 }
 
-/* A call that is refused at once writes its out-parameters too, which hold garbage before it. */
-static void out_parameters(void) {
-    struct host h = fresh(SETUP);
-    cuzkelor_setup bad = {0, L, P, M};
-    cuzkelor_tables t = tables_of(&h);
-    uint32_t numbers[4] = {0, 0, 0, 0}, values[1], cost = GARBAGE, line = GARBAGE;
-    size_t taken = GARBAGE, place = GARBAGE;
-    uint32_t refusal = cuzkelor_run(bad.processors, L, P, M, h.blocks, SLOTS, h.counters, SLOTS, h.marks, SLOTS,
-                                    h.words, SLOTS * P, h.memory, M * P, &h.account.requests, &h.account.fetch,
-                                    &h.account.write_back, &h.account.update, numbers, 4, values, 1, &taken, &place);
-    check(refusal == 1 && taken == 0 && place == 0, "a run refused at once");
-    place = GARBAGE;
-    refusal = cuzkelor_price(bad.processors, L, P, M, h.blocks, SLOTS, h.counters, SLOTS, h.marks, SLOTS, numbers, 3,
-                             numbers, 4, &place, &cost);
-    check(refusal == 1 && place == 0 && cost == 0, "a schedule refused at once");
-    memset(&h.account, 0x77, sizeof h.account);
-    refusal = cuzkelor_count_trace((const uint8_t *)"", 0, t.blocks.at, 0, t.counters.at, 0, t.marks.at, 0,
-                                   t.words.at, 0, t.memory.at, 0, &h.account.requests, &h.account.fetch,
-                                   &h.account.write_back, &h.account.update, &line);
-    check(refusal == 2 && line == 0, "a trace refused at once");
-    check(h.account.requests + h.account.fetch + h.account.write_back + h.account.update == 0, "its account");
-}
-
-/* A list whose length is no whole number of records is refused by 2, after 1, and nothing changes. */
-static uint32_t run_numbers(struct host *h, uint32_t processors, size_t length, size_t value_count) {
+/* What the archive writes in a run and a price over lists of so many numbers; the out-parameters hold garbage before.
+ * A list whose length is no whole number of records is refused by 2, after 1 and 10. By these three nothing changes. */
+static uint32_t run_numbers(struct host *h, cuzkelor_setup setup, size_t length, size_t value_count) {
     uint32_t numbers[12] = {0}, values[3] = {GARBAGE, GARBAGE, GARBAGE};
     size_t taken = GARBAGE, place = GARBAGE;
     struct host before = *h;
-    uint32_t refusal =
-        cuzkelor_run(processors, L, P, M, h->blocks, SLOTS, h->counters, SLOTS, h->marks, SLOTS, h->words, SLOTS * P,
-                     h->memory, M * P, &h->account.requests, &h->account.fetch, &h->account.write_back,
-                     &h->account.update, numbers, length, values, value_count, &taken, &place);
+    uint32_t refusal = cuzkelor_run(setup.processors, setup.lines, setup.block_words, setup.block_count,
+                                    setup.fetch_price, setup.write_back_price, h->blocks, SLOTS, h->counters, SLOTS,
+                                    h->marks, SLOTS, h->words, SLOTS * P, h->memory, M * P, &h->account.requests,
+                                    &h->account.fetch, &h->account.write_back, &h->account.update, numbers, length,
+                                    values, value_count, &taken, &place);
     if (refusal == 0) return 0;
     check(taken == 0 && place == 0 && values[0] == GARBAGE, "nothing taken");
     check(memcmp(h, &before, sizeof before) == 0, "nothing changes");
     return refusal;
 }
 
-static uint32_t price_numbers(uint32_t processors, size_t entries_length, size_t requests_length) {
+static uint32_t price_numbers(cuzkelor_setup setup, size_t entries_length, size_t requests_length) {
     uint32_t entries[6] = {CUZKELOR_FETCH, 0, 0, CUZKELOR_COMPLETE, 0, 0}, requests[8] = {0}, cost = GARBAGE;
     uint32_t tables[3][SLOTS];
     size_t place = GARBAGE;
     memset(tables, 0x77, sizeof tables);
-    uint32_t refusal = cuzkelor_price(processors, L, P, M, tables[0], SLOTS, tables[1], SLOTS, tables[2], SLOTS,
-                                      entries, entries_length, requests, requests_length, &place, &cost);
+    uint32_t refusal = cuzkelor_price(setup.processors, setup.lines, setup.block_words, setup.block_count,
+                                      setup.fetch_price, setup.write_back_price, tables[0], SLOTS, tables[1], SLOTS,
+                                      tables[2], SLOTS, entries, entries_length, requests, requests_length, &place,
+                                      &cost);
     if (refusal == 0) return 0;
     check(place == 0 && cost == 0, "no place and no cost");
     check(tables[0][0] == 0x77777777 && tables[1][0] == 0x77777777 && tables[2][0] == 0x77777777, "tables unchanged");
@@ -318,30 +362,45 @@ static void whole_lists(void) {
     struct host h = fresh(SETUP);
     for (size_t length = 0; length <= 12; length++) {
         uint32_t refusal = length % CUZKELOR_REQUEST_NUMBERS == 0 ? 0 : CUZKELOR_WRONG_LENGTH;
-        check(run_numbers(&h, N, length, length / 4) == refusal, "a list of requests");
-        check(run_numbers(&h, N, length, (length + 3) / 4) == refusal, "a list of requests with a value for its rest");
-        check(run_numbers(&h, 9, length, length / 4) == CUZKELOR_SETUP_OUT_OF_RANGE, "1 comes first");
+        check(run_numbers(&h, SETUP, length, length / 4) == refusal, "a list of requests");
+        check(run_numbers(&h, SETUP, length, (length + 3) / 4) == refusal, "a list with a value for its rest");
+        check(run_numbers(&h, NINE_AND_DEAR, length, length / 4) == CUZKELOR_SETUP_OUT_OF_RANGE, "1 comes first");
+        check(run_numbers(&h, DEAR_WRITE_BACK, length, length / 4) == CUZKELOR_PRICE_OUT_OF_RANGE, "then 10");
     }
     for (size_t rest = 1; rest < 4; rest++) {
-        check(price_numbers(N, 6, 4 + rest) == CUZKELOR_WRONG_LENGTH, "the requests of a schedule");
-        check(price_numbers(9, 6, 4 + rest) == CUZKELOR_SETUP_OUT_OF_RANGE, "1 comes first");
+        check(price_numbers(SETUP, 6, 4 + rest) == CUZKELOR_WRONG_LENGTH, "the requests of a schedule");
+        check(price_numbers(NINE_AND_DEAR, 6, 4 + rest) == CUZKELOR_SETUP_OUT_OF_RANGE, "1 comes first");
+        check(price_numbers(DEAR_WRITE_BACK, 6, 4 + rest) == CUZKELOR_PRICE_OUT_OF_RANGE, "then 10");
     }
-    check(price_numbers(N, 6, 4) == CUZKELOR_NO_REFUSAL, "whole lists");
-    check(price_numbers(N, 5, 4) == CUZKELOR_WRONG_LENGTH, "a schedule less one number");
-    check(price_numbers(N, 4, 4) == CUZKELOR_WRONG_LENGTH, "a schedule less two numbers");
-    check(price_numbers(9, 5, 4) == CUZKELOR_SETUP_OUT_OF_RANGE, "1 comes first");
+    check(price_numbers(SETUP, 6, 4) == CUZKELOR_NO_REFUSAL, "whole lists");
+    check(price_numbers(SETUP, 5, 4) == CUZKELOR_WRONG_LENGTH, "a schedule less one number");
+    check(price_numbers(SETUP, 4, 4) == CUZKELOR_WRONG_LENGTH, "a schedule less two numbers");
+    check(price_numbers(NINE_PROCESSORS, 6, 4) == CUZKELOR_SETUP_OUT_OF_RANGE, "nine processors");
+    check(price_numbers(DEAR_WRITE_BACK, 6, 4) == CUZKELOR_PRICE_OUT_OF_RANGE, "a dear write-back");
+}
+
+/* A trace that is refused at once writes its out-parameters too. */
+static void a_trace_refused_at_once(void) {
+    struct host h = fresh(SETUP);
+    uint32_t line = GARBAGE;
+    memset(&h.account, 0x77, sizeof h.account);
+    uint32_t refusal = cuzkelor_count_trace((const uint8_t *)"", 0, h.blocks, 0, h.counters, 0, h.marks, 0, h.words, 0,
+                                            h.memory, 0, &h.account.requests, &h.account.fetch,
+                                            &h.account.write_back, &h.account.update, &line);
+    check(refusal == 2 && line == 0, "a trace refused at once");
+    check(h.account.requests + h.account.fetch + h.account.write_back + h.account.update == 0, "its account");
 }
 
 static void version(void) {
-    check(cuzkelor_version() == 1 && CUZKELOR_VERSION == 1, "version 1");
+    check(cuzkelor_version() == 2 && CUZKELOR_VERSION == 2, "version 2");
     check(cuzkelor_version_matches(), "the archive belongs to the header");
 }
 
 /* The document's numbers, and those by which nothing changes. */
-static bool is_refusal(uint32_t number) { return (1 <= number && number <= 9) || (20 <= number && number <= 28); }
+static bool is_refusal(uint32_t number) { return (1 <= number && number <= 10) || (20 <= number && number <= 28); }
 
 static bool of_call(uint32_t number) {
-    return number == 1 || number == 2 || number == 5 || number == 20 || number == 21;
+    return number == 1 || number == 2 || number == 5 || number == 10 || number == 20 || number == 21;
 }
 
 static void texts(void) {
@@ -352,19 +411,35 @@ static void texts(void) {
     }
     check(strcmp(cuzkelor_refusal_text(0), "no refusal") == 0 && !cuzkelor_refuses_call(0), "0");
     check(strcmp(cuzkelor_refusal_text(CUZKELOR_DROP_OF_MARKED), "a drop of a marked block") == 0, "25");
-    check(CUZKELOR_SETUP_OUT_OF_RANGE == 1 && CUZKELOR_UNSOUND_TABLES == 20 && CUZKELOR_REQUESTS_LEFT == 28, "names");
+    check(CUZKELOR_SETUP_OUT_OF_RANGE == 1 && CUZKELOR_PRICE_OUT_OF_RANGE == 10, "names of 1 and 10");
+    check(CUZKELOR_UNSOUND_TABLES == 20 && CUZKELOR_REQUESTS_LEFT == 28, "names of 20 and 28");
 }
 
 static void lengths(void) {
-    cuzkelor_setup most = {CUZKELOR_MOST_PROCESSORS, CUZKELOR_MOST_LINES, CUZKELOR_MOST_BLOCK_WORDS,
-                           CUZKELOR_MOST_BLOCK_COUNT};
-    cuzkelor_setup least = {1, 1, 1, 1}, none = {1, 1, 0, 1}, nine = {9, 1, 1, 1};
+    cuzkelor_setup most = {CUZKELOR_MOST_PROCESSORS,  CUZKELOR_MOST_LINES,       CUZKELOR_MOST_BLOCK_WORDS,
+                           CUZKELOR_MOST_BLOCK_COUNT, CUZKELOR_MOST_FETCH_PRICE, CUZKELOR_MOST_FETCH_PRICE};
     check(cuzkelor_slot_count(SETUP) == 32 && cuzkelor_word_count(SETUP) == 128, "slots and words");
     check(cuzkelor_variable_count(SETUP) == 256, "variables");
     check(cuzkelor_slot_count(most) == 512 && cuzkelor_word_count(most) == 8192, "the most slots and words");
     check(cuzkelor_variable_count(most) == 4096, "the most variables");
-    check(cuzkelor_setup_in_range(most) && cuzkelor_setup_in_range(least), "in range");
-    check(!cuzkelor_setup_in_range(none) && !cuzkelor_setup_in_range(nine), "out of range");
+    check(cuzkelor_setup_in_range(most), "in range");
+}
+
+/* The header's ranges are those of the archive. */
+static void ranges(void) {
+    static const uint32_t numbers[] = {0, 1, 4, 5, 8, 9, 16, 17, 32, 33, 64, 65, 256, 257, UINT32_MAX};
+    uint32_t nothing[1];
+    cuzkelor_numbers none = {nothing, 0};
+    cuzkelor_tables tables = {none, none, none, none, none};
+    for (size_t k = 0; k < 6 * sizeof numbers / sizeof numbers[0]; k++) {
+        uint32_t places[6] = {1, 1, 1, 1, 5, 4};
+        places[k % 6] = numbers[k / 6];
+        cuzkelor_setup setup = {places[0], places[1], places[2], places[3], places[4], places[5]};
+        uint32_t refusal = cuzkelor_start_tables(setup, &tables);
+        check(cuzkelor_sizes_in_range(setup) == (refusal != CUZKELOR_SETUP_OUT_OF_RANGE), "1");
+        check(cuzkelor_prices_in_range(setup) == (refusal != CUZKELOR_PRICE_OUT_OF_RANGE), "10");
+        check(cuzkelor_setup_in_range(setup) == (refusal == CUZKELOR_WRONG_LENGTH), "in range");
+    }
 }
 
 int main(void) {
@@ -383,15 +458,18 @@ int main(void) {
                  {"S10", s10},
                  {"S11", s11},
                  {"S12", s12},
+                 {"prices", prices},
+                 {"account limits", account_limits},
                  {"limits", limits},
                  {"printed trace", printed_trace},
                  {"a look", a_look},
                  {"a schedule", a_schedule},
-                 {"out-parameters", out_parameters},
                  {"whole lists", whole_lists},
+                 {"a trace refused at once", a_trace_refused_at_once},
                  {"version", version},
                  {"texts", texts},
-                 {"lengths", lengths}};
+                 {"lengths", lengths},
+                 {"ranges", ranges}};
     for (size_t k = 0; k < sizeof cases / sizeof cases[0]; k++) {
         cases[k].play();
         passed(cases[k].name);

@@ -31,6 +31,8 @@ macro_rules! call {
             $setup.lines,
             $setup.block_words,
             $setup.block_count,
+            $setup.fetch_price,
+            $setup.write_back_price,
             $($buffer.$pointer(), $buffer.len(),)*
             $($more,)*
         )
@@ -48,8 +50,8 @@ mod tests {
     #[test]
     fn another_version() {
         assert_eq!(
-            super::other_version(2),
-            "libhost.a has version 2 and this crate is for version 1: \
+            super::other_version(1),
+            "libhost.a has version 1 and this crate is for version 2: \
              link the archive that `rt staticlib host` writes from the same sources"
         );
     }

@@ -31,7 +31,7 @@ impl Board {
     ///
     /// # Errors
     ///
-    /// [`SetupOutOfRange`](Refusal::SetupOutOfRange).
+    /// [`SetupOutOfRange`](Refusal::SetupOutOfRange), [`PriceOutOfRange`](Refusal::PriceOutOfRange).
     ///
     /// # Panics
     ///

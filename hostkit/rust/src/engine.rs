@@ -5,7 +5,8 @@ use crate::{Account, Block, Refusal, Request, RunError, Setup, Tables};
 ///
 /// # Errors
 ///
-/// [`SetupOutOfRange`](Refusal::SetupOutOfRange), or [`WrongLength`](Refusal::WrongLength) of a table;
+/// In this order [`SetupOutOfRange`](Refusal::SetupOutOfRange),
+/// [`PriceOutOfRange`](Refusal::PriceOutOfRange), [`WrongLength`](Refusal::WrongLength) of a table:
 /// then no table changes.
 ///
 /// # Panics
@@ -69,8 +70,9 @@ pub fn look(setup: Setup, tables: &Tables, processor: u32, block: Block) -> &[u3
 ///
 /// # Errors
 ///
-/// In this order [`SetupOutOfRange`](Refusal::SetupOutOfRange), [`WrongLength`](Refusal::WrongLength)
-/// of a table or of the values, [`UnsoundTables`](Refusal::UnsoundTables),
+/// In this order [`SetupOutOfRange`](Refusal::SetupOutOfRange),
+/// [`PriceOutOfRange`](Refusal::PriceOutOfRange), [`WrongLength`](Refusal::WrongLength) of a table or
+/// of the values, [`UnsoundTables`](Refusal::UnsoundTables),
 /// [`ImpossibleAccount`](Refusal::ImpossibleAccount): then nothing changes. For each request
 /// [`NoSuchProcessor`](Refusal::NoSuchProcessor), [`NoSuchVariable`](Refusal::NoSuchVariable),
 /// [`AccountFull`](Refusal::AccountFull): then everything is as the requests before it left it.

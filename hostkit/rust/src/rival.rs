@@ -21,9 +21,10 @@ use crate::{Entry, PriceError, Refusal, Request, RivalTables, Setup};
 ///
 /// # Errors
 ///
-/// In this order [`SetupOutOfRange`](Refusal::SetupOutOfRange), [`WrongLength`](Refusal::WrongLength)
-/// of a table, [`TooMany`](Refusal::TooMany): then no table changes. At each fetch, write-back and
-/// drop [`NoSuchProcessor`](Refusal::NoSuchProcessor), [`NoSuchBlock`](Refusal::NoSuchBlock), and
+/// In this order [`SetupOutOfRange`](Refusal::SetupOutOfRange),
+/// [`PriceOutOfRange`](Refusal::PriceOutOfRange), [`WrongLength`](Refusal::WrongLength) of a table,
+/// [`TooMany`](Refusal::TooMany): then no table changes. At each fetch, write-back and drop
+/// [`NoSuchProcessor`](Refusal::NoSuchProcessor), [`NoSuchBlock`](Refusal::NoSuchBlock), and
 /// [`LineInUse`](Refusal::LineInUse) of a fetch, [`BlockNotHeld`](Refusal::BlockNotHeld) of the
 /// others, [`DropOfMarked`](Refusal::DropOfMarked); at each completion
 /// [`NoRequestLeft`](Refusal::NoRequestLeft), [`NoSuchProcessor`](Refusal::NoSuchProcessor),

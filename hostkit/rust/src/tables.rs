@@ -6,7 +6,7 @@ use crate::{start, Refusal, Setup};
 pub struct Tables {
     /// The block in each line; 0 in an empty one.
     pub blocks: Vec<u32>,
-    /// The counter of each line; 0 in an empty one, and only there.
+    /// The counter of each line; 0 in an empty one, and only there; at most the fetch price.
     pub counters: Vec<u32>,
     /// The dirty mark of each line: 0 or 1.
     pub marks: Vec<u32>,
@@ -45,7 +45,7 @@ impl Tables {
     ///
     /// # Errors
     ///
-    /// [`SetupOutOfRange`](Refusal::SetupOutOfRange).
+    /// [`SetupOutOfRange`](Refusal::SetupOutOfRange), [`PriceOutOfRange`](Refusal::PriceOutOfRange).
     ///
     /// # Panics
     ///

@@ -7,10 +7,10 @@ use cuzkelor::{
 use std::error::Error;
 
 /// The numbers of the document, and those that refuse the call as a whole.
-const NUMBERS: [u32; 18] = [
-    1, 2, 3, 4, 5, 6, 7, 8, 9, 20, 21, 22, 23, 24, 25, 26, 27, 28,
+const NUMBERS: [u32; 19] = [
+    1, 2, 3, 4, 5, 6, 7, 8, 9, 10, 20, 21, 22, 23, 24, 25, 26, 27, 28,
 ];
-const OF_CALLS: [u32; 5] = [1, 2, 5, 20, 21];
+const OF_CALLS: [u32; 6] = [1, 2, 5, 10, 20, 21];
 
 fn text(error: impl Error + Send + Sync + 'static) -> String {
     Box::<dyn Error + Send + Sync>::from(error).to_string()
@@ -40,6 +40,10 @@ fn refusals_in_words() {
     assert_eq!(
         text(Refusal::SetupOutOfRange),
         "refused by 1: a setup number is out of range"
+    );
+    assert_eq!(
+        text(Refusal::PriceOutOfRange),
+        "refused by 10: the fetch price or the write-back price is out of range"
     );
     let mut texts: Vec<&str> = Refusal::ALL.iter().map(|one| one.text()).collect();
     texts.sort_unstable();
@@ -99,7 +103,7 @@ fn trace_errors() {
 fn version() {
     // SAFETY: takes nothing.
     let archive = unsafe { raw::cuzkelor_version() };
-    assert_eq!((archive, raw::CUZKELOR_VERSION), (1, 1));
+    assert_eq!((archive, raw::CUZKELOR_VERSION), (2, 2));
 }
 
 #[test]
@@ -156,13 +160,22 @@ fn lengths_of_a_setup() {
         lines: u32::MAX,
         block_words: u32::MAX,
         block_count: u32::MAX,
+        fetch_price: u32::MAX,
+        write_back_price: u32::MAX,
     };
     assert_eq!(lengths(out_of_range), [0; 3]);
 }
 
+/// Whether a board can be made of a setup, and by what it is refused if not.
+fn refusal_of(setup: Setup) -> Option<Refusal> {
+    let refusal = Board::new(setup).err();
+    assert_eq!(refusal.is_none(), setup.in_range(), "{setup:?}");
+    refusal
+}
+
 /// The header's ranges are those of the archive.
 #[test]
-fn ranges_of_a_setup() {
+fn ranges_of_sizes() {
     for number in [0, 1, 2, 8, 9, 16, 17, 64, 65, 256, 257, u32::MAX] {
         for field in 0..4 {
             let mut numbers = [1; 4];
@@ -173,8 +186,25 @@ fn ranges_of_a_setup() {
                 lines,
                 block_words,
                 block_count,
+                fetch_price: 1,
+                write_back_price: 1,
             };
-            assert_eq!(Board::new(setup).is_ok(), setup.in_range(), "{setup:?}");
+            let refusal = (!setup.sizes_in_range()).then_some(Refusal::SetupOutOfRange);
+            assert_eq!(refusal_of(setup), refusal, "{setup:?}");
         }
+    }
+}
+
+#[test]
+fn ranges_of_prices() {
+    let prices = [0, 1, 2, 4, 5, 31, 32, 33, u32::MAX];
+    for (fetch_price, write_back_price) in prices.iter().flat_map(|f| prices.map(|g| (*f, g))) {
+        let setup = Setup {
+            fetch_price,
+            write_back_price,
+            ..TRACE_SETUP
+        };
+        let refusal = (!setup.prices_in_range()).then_some(Refusal::PriceOutOfRange);
+        assert_eq!(refusal_of(setup), refusal, "{setup:?}");
     }
 }

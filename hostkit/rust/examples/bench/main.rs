@@ -6,6 +6,7 @@ mod clock;
 mod plain;
 
 use cuzkelor::{run, Account, Request, Setup, Tables, Variable};
+use std::hint::black_box;
 use std::time::Duration;
 
 const BAR: f64 = 1.25;
@@ -17,6 +18,8 @@ const LARGE: Setup = Setup {
     lines: 64,
     block_words: 16,
     block_count: 256,
+    fetch_price: 16,
+    write_back_price: 16,
 };
 
 /// A xorshift64* generator.
@@ -114,6 +117,8 @@ fn least(setup: Setup, lists: &[Vec<Request>], times: u32) -> (Duration, Duratio
 }
 
 fn measure(name: &str, setup: Setup, requests: usize, run_length: usize, times: u32) -> f64 {
+    // Neither engine is compiled for the numbers of one setup.
+    let setup = black_box(setup);
     let mut draw = Draw(1988);
     let lists: Vec<Vec<Request>> = (0..requests / run_length)
         .map(|_| (0..run_length).map(|_| request(&mut draw, setup)).collect())

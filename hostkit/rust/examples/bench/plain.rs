@@ -5,12 +5,14 @@ use cuzkelor::{Account, Setup, Tables};
 
 const LIMIT: u32 = 1_000_000;
 
-/// The tables, with the setup's numbers as indices.
+/// The tables, with the setup's sizes as indices and its prices as cycles.
 struct Board<'a> {
     n: usize,
     l: usize,
     p: usize,
     m: usize,
+    fetch_price: u32,
+    write_back_price: u32,
     blocks: &'a mut [u32],
     counters: &'a mut [u32],
     marks: &'a mut [u32],
@@ -55,12 +57,12 @@ impl Board<'_> {
             return block == 0 && self.marks[slot] == 0 && words.iter().all(|&word| word == 0);
         }
         let at = block as usize;
-        if counter as usize > self.p || at >= self.m || at % self.l != line {
+        if counter > self.fetch_price || at >= self.m || at % self.l != line {
             return false;
         }
         match self.marks[slot] {
             0 => words == &self.memory[at * self.p..][..self.p],
-            1 => counter as usize == self.p && self.other_holder(i, line, block).is_none(),
+            1 => counter == self.fetch_price && self.other_holder(i, line, block).is_none(),
             _ => false,
         }
     }
@@ -89,7 +91,7 @@ impl Board<'_> {
         let slot = i * self.l + line;
         if self.marks[slot] != 0 {
             self.save(slot);
-            bill.write_back += self.p as u32;
+            bill.write_back += self.write_back_price;
         }
         let mut slots = (0..self.n).map(|j| j * self.l + line);
         if let Some(owner) =
@@ -99,9 +101,9 @@ impl Board<'_> {
         }
         let at = block as usize * self.p;
         self.blocks[slot] = block;
-        self.counters[slot] = self.p as u32;
+        self.counters[slot] = self.fetch_price;
         self.words[slot * self.p..][..self.p].copy_from_slice(&self.memory[at..][..self.p]);
-        bill.fetch += self.p as u32;
+        bill.fetch += self.fetch_price;
     }
 
     #[inline]
@@ -112,7 +114,7 @@ impl Board<'_> {
             offset,
         } = at;
         let slot = i * self.l + line;
-        self.counters[slot] = self.p as u32;
+        self.counters[slot] = self.fetch_price;
         self.words[slot * self.p + offset] = value;
         let Some(payer) = self.other_holder(i, line, block) else {
             self.marks[slot] = 1;
@@ -161,9 +163,9 @@ impl Board<'_> {
 }
 
 fn impossible(setup: Setup, account: &Account) -> bool {
-    let most = u64::from(setup.block_words) * u64::from(account.requests);
-    u64::from(account.fetch) > most
-        || u64::from(account.write_back) > most
+    let most = |price: u32| u64::from(price) * u64::from(account.requests);
+    u64::from(account.fetch) > most(setup.fetch_price)
+        || u64::from(account.write_back) > most(setup.write_back_price)
         || account.update > account.requests
 }
 
@@ -175,14 +177,19 @@ pub fn run(
     requests: &[u32],
     values: &mut [u32],
 ) -> (usize, u32, usize) {
-    if !setup.in_range() {
+    if !setup.sizes_in_range() {
         return (0, 1, 0);
+    }
+    if !setup.prices_in_range() {
+        return (0, 10, 0);
     }
     let mut board = Board {
         n: setup.processors as usize,
         l: setup.lines as usize,
         p: setup.block_words as usize,
         m: setup.block_count as usize,
+        fetch_price: setup.fetch_price,
+        write_back_price: setup.write_back_price,
         blocks: &mut tables.blocks,
         counters: &mut tables.counters,
         marks: &mut tables.marks,

@@ -4,7 +4,7 @@ use crate::draw::Draw;
 use crate::lend;
 use crate::model::{shown, Ask, Caches, Ledger};
 use crate::tally::Tally;
-use cuzkelor::{Block, Board, Refusal, Request, Variable, TRACE_SETUP};
+use cuzkelor::{Block, Board, Refusal, Request, Setup, Variable, TRACE_SETUP};
 use std::thread;
 
 /// One board with its facts.
@@ -98,11 +98,16 @@ fn values_of_another_length() {
 
 #[test]
 fn a_setup_out_of_range() {
-    let setup = cuzkelor::Setup {
+    let setup = Setup {
         lines: 65,
         ..TRACE_SETUP
     };
     assert_eq!(Board::new(setup), Err(Refusal::SetupOutOfRange));
+    let setup = Setup {
+        write_back_price: 5,
+        ..TRACE_SETUP
+    };
+    assert_eq!(Board::new(setup), Err(Refusal::PriceOutOfRange));
 }
 
 /// A board after some random lists.

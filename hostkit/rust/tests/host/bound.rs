@@ -3,6 +3,7 @@
 use crate::draw::Draw;
 use crate::model::{Ask, Board, Caches, Move, Rival};
 use crate::rivals::{accepted_cost, engine_moves, Closeness};
+use crate::tally::Prices;
 use std::collections::{BTreeMap, BTreeSet};
 
 /// A rival's position: its copies, and the requests completed.
@@ -83,14 +84,18 @@ fn bill(board: Board, asks: &[Ask]) -> u64 {
 #[test]
 fn cheapest_schedules() {
     let mut draw = Draw::for_test("cheapest schedules");
-    let mut closeness = Closeness::default();
+    let (mut closeness, mut prices) = (Closeness::default(), Prices::default());
     for _ in 0..300 {
+        let f = draw.within(1, 4);
         let board = Board {
             n: draw.within(2, 3),
             l: draw.within(1, 2),
             p: draw.within(1, 3),
             m: draw.within(1, 3),
+            f,
+            g: draw.within(1, f),
         };
+        prices.count(board);
         let count = draw.index(13);
         let asks = draw.asks(board, count);
         let moves = cheapest(board, &asks);
@@ -100,6 +105,7 @@ fn cheapest_schedules() {
         closeness.hold(bill, cost);
     }
     closeness.print("cheapest schedules");
+    prices.close("cheapest schedules");
 }
 
 /// The engine's own actions are a legal schedule at its own bill.

@@ -5,7 +5,7 @@ use crate::draw::Draw;
 use crate::lend;
 use crate::model::{read, Board};
 use crate::runs::{compared, Lent};
-use crate::tally::Tally;
+use crate::tally::{Prices, Tally};
 use cuzkelor::{Account, Tables};
 use std::collections::BTreeMap;
 
@@ -13,7 +13,7 @@ use std::collections::BTreeMap;
 type Change = fn(&mut Draw, Board, &mut Tables) -> bool;
 
 const DAMAGES: [(&str, Change); 12] = [
-    ("counter over p", counter_over_p),
+    ("counter over f", counter_over_f),
     ("empty line with a block", empty_line_with_a_block),
     ("empty line with a mark", empty_line_with_a_mark),
     ("empty line with a word", empty_line_with_a_word),
@@ -21,7 +21,7 @@ const DAMAGES: [(&str, Change); 12] = [
     ("block not below M", block_not_below_m),
     ("block in another line", block_in_another_line),
     ("mark above 1", mark_above_1),
-    ("marked, counter below p", marked_counter_below_p),
+    ("marked, counter below f", marked_counter_below_f),
     ("marked, another holder", marked_another_holder),
     ("copy unlike memory", copy_unlike_memory),
     ("memory unlike a copy", memory_unlike_a_copy),
@@ -30,7 +30,7 @@ const DAMAGES: [(&str, Change); 12] = [
 const CHANGES: [(&str, Change); 4] = [
     ("word of a marked copy", word_of_a_marked_copy),
     ("memory that no unmarked copy shows", unshown_memory),
-    ("counter from 1 to p", counter_from_1_to_p),
+    ("counter from 1 to f", counter_from_1_to_f),
     ("a lone copy marked", lone_copy_marked),
 ];
 
@@ -71,11 +71,11 @@ fn any_word(draw: &mut Draw, board: Board, at: usize) -> usize {
     at * board.p as usize + draw.index(board.p as usize)
 }
 
-fn counter_over_p(draw: &mut Draw, board: Board, tables: &mut Tables) -> bool {
+fn counter_over_f(draw: &mut Draw, board: Board, tables: &mut Tables) -> bool {
     let Some(at) = unmarked_line(draw, tables) else {
         return false;
     };
-    tables.counters[at] = draw.pick(&[board.p + 1, u32::MAX]);
+    tables.counters[at] = draw.pick(&[board.f + 1, u32::MAX]);
     true
 }
 
@@ -132,7 +132,7 @@ fn block_in_another_line(draw: &mut Draw, board: Board, tables: &mut Tables) -> 
     }
     let p = board.p as usize;
     tables.blocks[at] = block;
-    tables.counters[at] = board.p;
+    tables.counters[at] = board.f;
     tables.words[at * p..][..p].copy_from_slice(&tables.memory[block as usize * p..][..p]);
     true
 }
@@ -141,18 +141,18 @@ fn mark_above_1(draw: &mut Draw, board: Board, tables: &mut Tables) -> bool {
     let Some(at) = line_by_holders(draw, tables, true) else {
         return false;
     };
-    tables.counters[at] = board.p;
+    tables.counters[at] = board.f;
     tables.marks[at] = draw.pick(&[2, 3, u32::MAX]);
     true
 }
 
-fn marked_counter_below_p(draw: &mut Draw, board: Board, tables: &mut Tables) -> bool {
+fn marked_counter_below_f(draw: &mut Draw, board: Board, tables: &mut Tables) -> bool {
     let Some(at) = line_by_holders(draw, tables, true) else {
         return false;
     };
     tables.marks[at] = 1;
-    tables.counters[at] = board.p - 1;
-    board.p > 1
+    tables.counters[at] = board.f - 1;
+    board.f > 1
 }
 
 fn marked_another_holder(draw: &mut Draw, board: Board, tables: &mut Tables) -> bool {
@@ -160,7 +160,7 @@ fn marked_another_holder(draw: &mut Draw, board: Board, tables: &mut Tables) -> 
         return false;
     };
     tables.marks[at] = 1;
-    tables.counters[at] = board.p;
+    tables.counters[at] = board.f;
     true
 }
 
@@ -197,11 +197,11 @@ fn unshown_memory(draw: &mut Draw, board: Board, tables: &mut Tables) -> bool {
     !shown
 }
 
-fn counter_from_1_to_p(draw: &mut Draw, board: Board, tables: &mut Tables) -> bool {
+fn counter_from_1_to_f(draw: &mut Draw, board: Board, tables: &mut Tables) -> bool {
     let Some(at) = unmarked_line(draw, tables) else {
         return false;
     };
-    tables.counters[at] = draw.within(1, board.p);
+    tables.counters[at] = draw.within(1, board.f);
     true
 }
 
@@ -209,7 +209,7 @@ fn lone_copy_marked(draw: &mut Draw, board: Board, tables: &mut Tables) -> bool 
     let Some(at) = line_by_holders(draw, tables, true) else {
         return false;
     };
-    tables.counters[at] = board.p;
+    tables.counters[at] = board.f;
     tables.marks[at] = 1;
     true
 }
@@ -288,14 +288,17 @@ fn damaged_tables() {
         tally: Tally::default(),
         by_kind: BTreeMap::new(),
     };
+    let mut prices = Prices::default();
     for _ in 0..1_500 {
         let board = draw.board();
+        prices.count(board);
         let lent = used(&mut draw, board);
         for kind in DAMAGES.into_iter().chain(CHANGES) {
             changed.run(&mut draw, board, &lent, kind);
         }
         changed.run_on_any(&mut draw, board, &lent);
     }
+    prices.close("damaged tables");
     println!("damaged tables: {:?}", changed.by_kind);
     assert_eq!(changed.by_kind.len(), DAMAGES.len() + CHANGES.len());
     assert!(changed.by_kind.values().all(|&count| count >= 100));

@@ -2,6 +2,16 @@
 
 use crate::model::{Ask, Board};
 
+/// A board before its prices are drawn, which go by its words in a block.
+const UNPRICED: Board = Board {
+    n: 1,
+    l: 1,
+    p: 1,
+    m: 1,
+    f: 1,
+    g: 1,
+};
+
 pub struct Draw(u64);
 
 impl Draw {
@@ -59,14 +69,43 @@ impl Draw {
         }
     }
 
+    /// Prices on a board of p words in a block: a fetch at p, below it, above it, at an extreme, or
+    /// so cheap that few writes empty a line; a write-back from 1 to that.
+    fn prices(&mut self, p: u32) -> (u32, u32) {
+        let f = match self.below(6) {
+            0 => p,
+            1 => self.within(1, p),
+            2 => self.within(p, 32),
+            3 => self.pick(&[1, 32]),
+            _ => self.within(1, 6),
+        };
+        let g = match self.below(3) {
+            0 => f,
+            1 => 1,
+            _ => self.within(1, f),
+        };
+        (f, g)
+    }
+
+    fn priced(&mut self, sizes: Board) -> Board {
+        let (f, g) = self.prices(sizes.p);
+        Board { f, g, ..sizes }
+    }
+
     /// A setup in range: any, tiny, with extremes, with more lines than blocks, of one word, of one
     /// processor.
     pub fn board(&mut self) -> Board {
+        let sizes = self.sizes();
+        self.priced(sizes)
+    }
+
+    fn sizes(&mut self) -> Board {
         let any = Board {
             n: self.within(1, 8),
             l: self.within(1, 64),
             p: self.within(1, 16),
             m: self.within(1, 256),
+            ..UNPRICED
         };
         match self.below(7) {
             0 => any,
@@ -75,6 +114,7 @@ impl Draw {
                 l: self.pick(&[1, 64]),
                 p: self.pick(&[1, 16]),
                 m: self.pick(&[1, 256]),
+                ..UNPRICED
             },
             2 => Board {
                 l: self.within(8, 64),
@@ -83,24 +123,30 @@ impl Draw {
             },
             3 => Board {
                 p: 1,
-                ..self.tiny_board()
+                ..self.tiny_sizes()
             },
             4 => Board {
                 n: 1,
                 l: self.within(1, 4),
                 ..any
             },
-            _ => self.tiny_board(),
+            _ => self.tiny_sizes(),
         }
     }
 
     /// A setup on which a short list already shares blocks and collides.
     pub fn tiny_board(&mut self) -> Board {
+        let sizes = self.tiny_sizes();
+        self.priced(sizes)
+    }
+
+    fn tiny_sizes(&mut self) -> Board {
         Board {
             n: self.within(2, 4),
             l: self.within(1, 3),
             p: self.within(1, 4),
             m: self.within(1, 7),
+            ..UNPRICED
         }
     }
 
@@ -151,8 +197,31 @@ impl Draw {
         }
     }
 
-    /// A setup with at least one number out of range.
+    /// A setup with at least one number out of range: sizes, prices or both.
     pub fn board_out_of_range(&mut self, board: Board) -> Board {
+        match self.below(3) {
+            0 => self.sizes_out_of_range(board),
+            1 => self.prices_out_of_range(board),
+            _ => {
+                let bad = self.sizes_out_of_range(board);
+                self.prices_out_of_range(bad)
+            }
+        }
+    }
+
+    pub fn prices_out_of_range(&mut self, board: Board) -> Board {
+        let mut bad = board;
+        let which = self.below(3);
+        if which != 1 {
+            bad.f = self.pick(&[0, 33, 34, u32::MAX]);
+        }
+        if which != 0 {
+            bad.g = self.pick(&[0, board.f + 1, u32::MAX]);
+        }
+        bad
+    }
+
+    pub fn sizes_out_of_range(&mut self, board: Board) -> Board {
         let mut bad = board;
         for _ in 0..self.within(1, 2) {
             match self.below(4) {

@@ -15,6 +15,8 @@ pub fn setup(board: Board) -> Setup {
         lines: board.l,
         block_words: board.p,
         block_count: board.m,
+        fetch_price: board.f,
+        write_back_price: board.g,
     }
 }
 

@@ -4,11 +4,12 @@ use crate::draw::Draw;
 use crate::lend;
 use crate::model::{read, sizes, Board};
 use crate::runs::{compared, Lent};
+use crate::tally::Tally;
 use cuzkelor::{look, Account, Block, Tables};
 
 /// The place of the part that a look gives; none where it is empty. Soundness plays no part.
 fn expected(board: Board, tables: &Tables, processor: u32, block: u32) -> Option<usize> {
-    if !board.in_range() || processor >= board.n || block >= board.m {
+    if board.refused().is_some() || processor >= board.n || block >= board.m {
         return None;
     }
     let (lines, words, _) = sizes(board);
@@ -25,19 +26,36 @@ fn expected(board: Board, tables: &Tables, processor: u32, block: u32) -> Option
     held.then_some(line * board.p as usize)
 }
 
-/// Looks through the archive and compares; whether something was shown.
-fn looked(board: Board, tables: &Tables, processor: u32, block: u32) -> bool {
+/// What a look gave. Hidden: nothing, for the setup's prices alone.
+#[derive(Clone, Copy, Debug, PartialEq, Eq, PartialOrd, Ord)]
+enum Seen {
+    Empty,
+    Hidden,
+    Shown,
+}
+
+/// Looks through the archive and compares.
+fn looked(board: Board, tables: &Tables, processor: u32, block: u32) -> Seen {
     let part = look(lend::setup(board), tables, processor, Block(block));
     let place = expected(board, tables, processor, block);
     let length = place.map_or(0, |_| board.p as usize);
     let whole = tables.words[place.unwrap_or(0)..].as_ptr();
     assert_eq!(part.len(), length, "{block} at {processor} on {board:?}");
     assert_eq!(part.as_ptr(), whole, "where the part begins");
-    place.is_some()
+    let cheapest = Board {
+        f: 1,
+        g: 1,
+        ..board
+    };
+    match expected(cheapest, tables, processor, block) {
+        _ if place.is_some() => Seen::Shown,
+        Some(_) => Seen::Hidden,
+        None => Seen::Empty,
+    }
 }
 
-/// Looks at some blocks, in range and out of it, and counts the empty parts and the others.
-fn look_around(draw: &mut Draw, board: Board, tables: &Tables, counts: &mut [usize; 2]) {
+/// Looks at some blocks, in range and out of it.
+fn look_around(draw: &mut Draw, board: Board, tables: &Tables, tally: &mut Tally<Seen>) {
     for _ in 0..20 {
         let held = draw.index(tables.blocks.len().max(1));
         let block = match draw.below(3) {
@@ -49,7 +67,7 @@ fn look_around(draw: &mut Draw, board: Board, tables: &Tables, counts: &mut [usi
             true => held as u32 / board.l.max(1),
             false => draw.pick(&[0, board.n, board.n.wrapping_add(1), u32::MAX]),
         };
-        counts[usize::from(looked(board, tables, processor, block))] += 1;
+        tally.count(looked(board, tables, processor, block));
     }
 }
 
@@ -85,7 +103,7 @@ fn disturb(draw: &mut Draw, tables: &mut Tables) {
 #[test]
 fn looks() {
     let mut draw = Draw::for_test("looks");
-    let mut counts = [0; 2];
+    let mut tally = Tally::default();
     for _ in 0..1_000 {
         let board = draw.board();
         let mut lent = Lent {
@@ -96,13 +114,11 @@ fn looks() {
         let asks = draw.asks(board, 100);
         compared(board, &mut lent, &asks);
         look_everywhere(board, &lent.tables);
-        look_around(&mut draw, board, &lent.tables, &mut counts);
+        look_around(&mut draw, board, &lent.tables, &mut tally);
         let bad = draw.board_out_of_range(board);
-        look_around(&mut draw, bad, &lent.tables, &mut counts);
+        look_around(&mut draw, bad, &lent.tables, &mut tally);
         disturb(&mut draw, &mut lent.tables);
-        look_around(&mut draw, board, &lent.tables, &mut counts);
+        look_around(&mut draw, board, &lent.tables, &mut tally);
     }
-    let [empty, shown] = counts;
-    println!("looks: {empty} empty, {shown} shown");
-    assert!(empty > 0 && shown > 0);
+    tally.close("looks", &[Seen::Empty, Seen::Hidden, Seen::Shown]);
 }

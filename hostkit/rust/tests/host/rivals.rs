@@ -51,13 +51,13 @@ impl Composer<'_> {
         self.push(Move::Fetch(i, block));
     }
 
-    /// Whether updates of j's copy until its next use are more than p.
+    /// Whether updates of j's copy until its next use cost more than a fetch.
     fn worth_dropping(&self, j: u32, block: u32) -> bool {
         let uses = |ask: &&Ask| self.rival.board.home(ask.variable).0 == block;
         let mut updates = 0;
         for ask in self.asks[self.done..].iter().filter(uses) {
             if ask.processor == j {
-                return updates > self.rival.board.p;
+                return updates > self.rival.board.f;
             }
             updates += u32::from(ask.write.is_some());
         }

@@ -5,7 +5,7 @@ use crate::draw::Draw;
 use crate::lend;
 use crate::model::{count, read, shown, sizes, Ask, Board, Caches, Ledger, Outcome};
 use crate::rivals::{self, Closeness};
-use crate::tally::Tally;
+use crate::tally::{Prices, Tally};
 use cuzkelor::{raw, Account, Request, Tables};
 use std::collections::BTreeMap;
 
@@ -28,8 +28,8 @@ pub struct Lent {
 
 /// The facts that a run of a list of numbers starts from, or its refusal at once.
 fn begin(board: Board, lent: &Lent, numbers: &[u32]) -> Result<Caches, u32> {
-    if !board.in_range() {
-        return Err(1);
+    if let Some(refusal) = board.refused() {
+        return Err(refusal);
     }
     if wrong_lengths(board, &lent.tables) || 4 * lent.values.len() != numbers.len() {
         return Err(2);
@@ -83,11 +83,7 @@ fn safe_run(board: Board, lent: &mut Lent, requests: &[Request]) -> Outcome {
 
 /// Calls the archive itself, with out-parameters that hold anything before.
 fn raw_run(board: Board, lent: &mut Lent, numbers: &[u32]) -> Outcome {
-    let Lent {
-        tables,
-        account,
-        values,
-    } = lent;
+    let (tables, account) = (&mut lent.tables, &mut lent.account);
     let (mut taken, mut place) = (0x5555, 0xaaaa);
     // SAFETY: owned buffers with their lengths, apart from each other.
     let refusal = unsafe {
@@ -96,6 +92,8 @@ fn raw_run(board: Board, lent: &mut Lent, numbers: &[u32]) -> Outcome {
             board.l,
             board.p,
             board.m,
+            board.f,
+            board.g,
             tables.blocks.as_mut_ptr(),
             tables.blocks.len(),
             tables.counters.as_mut_ptr(),
@@ -112,8 +110,8 @@ fn raw_run(board: Board, lent: &mut Lent, numbers: &[u32]) -> Outcome {
             &mut account.update,
             numbers.as_ptr(),
             numbers.len(),
-            values.as_mut_ptr(),
-            values.len(),
+            lent.values.as_mut_ptr(),
+            lent.values.len(),
             &mut taken,
             &mut place,
         )
@@ -163,11 +161,10 @@ fn possible_cycles(draw: &mut Draw, most: u32) -> u32 {
 }
 
 fn possible_account(draw: &mut Draw, board: Board, requests: u32) -> Account {
-    let most = requests.saturating_mul(board.p);
     Account {
         requests,
-        fetch: possible_cycles(draw, most),
-        write_back: possible_cycles(draw, most),
+        fetch: possible_cycles(draw, requests.saturating_mul(board.f)),
+        write_back: possible_cycles(draw, requests.saturating_mul(board.g)),
         update: possible_cycles(draw, requests),
     }
 }
@@ -184,18 +181,21 @@ fn first_account(draw: &mut Draw, board: Board) -> Account {
     possible_account(draw, board, requests)
 }
 
-/// An account that 21 meets, often by 1.
+/// An account that 21 meets, often by 1. Where no 32 bits are over a limit, another one is passed.
 fn impossible_account(draw: &mut Draw, board: Board) -> Account {
-    let requests = match draw.below(3) {
+    let requests = match draw.below(4) {
         0 => 0,
         1 => draw.below(1_000_001),
-        _ => draw.below(u32::MAX / 16),
+        2 => draw.below(u32::MAX / 32),
+        _ => draw.below(u32::MAX),
     };
     let mut account = possible_account(draw, board, requests);
-    let most = requests * board.p;
-    match draw.below(3) {
-        0 => account.fetch = draw.pick(&[most + 1, u32::MAX]),
-        1 => account.write_back = draw.pick(&[most + 1, u32::MAX]),
+    let over = |most: u64| u32::try_from(most + 1).ok();
+    let [over_fetch, over_write_back] =
+        [board.f, board.g].map(|price| over(u64::from(price) * u64::from(requests)));
+    match (draw.below(3), over_fetch, over_write_back) {
+        (0, Some(cycles), _) => account.fetch = draw.pick(&[cycles, u32::MAX]),
+        (1, _, Some(cycles)) => account.write_back = draw.pick(&[cycles, u32::MAX]),
         _ => account.update = draw.pick(&[requests + 1, u32::MAX]),
     }
     account
@@ -307,26 +307,30 @@ impl List {
         }
     }
 
-    /// A run that some of 1, 2, 20 and 21 meet: the first of them refuses it, and nothing changes.
+    /// A run that some of 1, 10, 2, 20 and 21 meet: the first of them refuses it, and nothing
+    /// changes.
     fn refused(&mut self, draw: &mut Draw) -> Outcome {
         let asks = self.asks(draw);
         let mut lent = self.lent(draw, asks.len());
         let mut board = self.board;
         let mut cut = None;
-        let causes: u32 = draw.pick(&[1, 2, 4, 8, 3, 6, 12, 15]);
+        let causes: u32 = draw.pick(&[1, 2, 4, 8, 16, 3, 5, 6, 12, 24, 30, 31]);
         if causes & 1 != 0 {
-            board = draw.board_out_of_range(self.board);
+            board = draw.sizes_out_of_range(self.board);
         }
         if causes & 2 != 0 {
+            board = draw.prices_out_of_range(board);
+        }
+        if causes & 4 != 0 {
             match draw.chance(75) {
                 true => wrong_length(draw, &mut lent),
                 false => cut = Some(cut_list(draw, &mut lent, &asks)),
             }
         }
-        if causes & 4 != 0 {
-            lent.tables.counters.fill(self.board.p + 1);
-        }
         if causes & 8 != 0 {
+            lent.tables.counters.fill(self.board.f + 1);
+        }
+        if causes & 16 != 0 {
             lent.account = impossible_account(draw, self.board);
         }
         let before = lent.clone();
@@ -334,7 +338,7 @@ impl List {
             Some(numbers) => compared_numbers(board, &mut lent, &asks, &numbers),
             None => compared_either(draw, board, &mut lent, &asks),
         };
-        let first = [1, 2, 20, 21][causes.trailing_zeros() as usize];
+        let first = [1, 10, 2, 20, 21][causes.trailing_zeros() as usize];
         assert_eq!(outcome, Outcome::at_once(first));
         assert_eq!(lent, before, "nothing changes");
         outcome
@@ -358,9 +362,11 @@ impl List {
 fn lists_of_runs() {
     let mut draw = Draw::for_test("lists of runs");
     let (mut tally, mut closeness) = (Tally::default(), Closeness::default());
+    let mut prices = Prices::default();
     let (mut lists, mut requests) = (0, 0);
     while lists < 4_000 {
         let mut list = List::start(&mut draw);
+        prices.count(list.board);
         for _ in 0..draw.below(9) {
             let outcome = match draw.chance(75) {
                 true => list.go_on(&mut draw),
@@ -374,7 +380,8 @@ fn lists_of_runs() {
     }
     println!("lists of runs: {lists} lists, {requests} requests taken");
     closeness.print("lists of runs");
-    tally.close("lists of runs", &[0, 1, 2, 3, 4, 20, 21, 22]);
+    prices.close("lists of runs");
+    tally.close("lists of runs", &[0, 1, 2, 3, 4, 10, 20, 21, 22]);
 }
 
 /// A list of any length on its own: 2 unless it is whole and has as many values.
@@ -416,15 +423,15 @@ fn starting() {
         if draw.chance(30) {
             board = draw.board_out_of_range(board);
         }
-        let (refusal, after) = match board.in_range() {
-            false => (1, tables.clone()),
-            true if wrong_lengths(board, &tables) => (2, tables.clone()),
-            true => (0, shown(&Caches::fresh(board))),
+        let (refusal, after) = match board.refused() {
+            Some(refusal) => (refusal, tables.clone()),
+            None if wrong_lengths(board, &tables) => (2, tables.clone()),
+            None => (0, shown(&Caches::fresh(board))),
         };
         let answer = cuzkelor::start(lend::setup(board), &mut tables);
         assert_eq!(lend::number(answer.err()), refusal, "on {board:?}");
         assert_eq!(tables, after, "what starting leaves on {board:?}");
         tally.count(refusal);
     }
-    tally.close("starting", &[0, 1, 2]);
+    tally.close("starting", &[0, 1, 2, 10]);
 }

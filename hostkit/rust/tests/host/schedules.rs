@@ -4,7 +4,7 @@ use crate::draw::Draw;
 use crate::lend;
 use crate::model::{price, rival_shown, sizes, Ask, Board, Move, Rival};
 use crate::rivals::any_legal;
-use crate::tally::Tally;
+use crate::tally::{Prices, Tally};
 use cuzkelor::{raw, Entry, Request, RivalTables};
 use std::fmt;
 
@@ -50,8 +50,8 @@ impl Question {
     }
 
     fn refused_at_once(&self, tables: &RivalTables) -> Option<u32> {
-        if !self.board.in_range() {
-            return Some(1);
+        if let Some(refusal) = self.board.refused() {
+            return Some(refusal);
         }
         let (lines, _, _) = sizes(self.board);
         let lengths = [tables.blocks.len(), tables.held.len(), tables.marks.len()];
@@ -101,6 +101,8 @@ fn raw_price(board: Board, tables: RivalTables, numbers: &Numbers) -> Told {
             board.l,
             board.p,
             board.m,
+            board.f,
+            board.g,
             told.tables.blocks.as_mut_ptr(),
             told.tables.blocks.len(),
             told.tables.held.as_mut_ptr(),
@@ -158,7 +160,7 @@ fn refused_cut(draw: &mut Draw, board: Board, tables: RivalTables, numbers: &Num
     }
     let told = raw_price(board, tables.clone(), &(entries, requests));
     let expected = Told {
-        refusal: if board.in_range() { 2 } else { 1 },
+        refusal: board.refused().unwrap_or(2),
         place: 0,
         cost: 0,
         tables,
@@ -238,9 +240,10 @@ fn disturb_lengths(draw: &mut Draw, tables: &mut RivalTables) {
 #[test]
 fn random_schedules() {
     let mut draw = Draw::for_test("random schedules");
-    let mut tally = Tally::default();
+    let (mut tally, mut prices) = (Tally::default(), Prices::default());
     for _ in 0..30_000 {
         let mut question = question(&mut draw);
+        prices.count(question.board);
         let mut tables = lend::rival_garbage(&mut draw, question.board);
         if draw.chance(3) {
             disturb_lengths(&mut draw, &mut tables);
@@ -255,12 +258,13 @@ fn random_schedules() {
         });
     }
     too_many(&mut draw, &mut tally);
-    let can_occur = [0, 1, 2, 3, 4, 5, 8, 9, 23, 24, 25, 26, 27, 28];
+    prices.close("random schedules");
+    let can_occur = [0, 1, 2, 3, 4, 5, 8, 9, 10, 23, 24, 25, 26, 27, 28];
     tally.close("random schedules", &can_occur);
 }
 
-/// Lists over the pricer's limits: 1 and 2, also for numbers that are no whole list, come before 5,
-/// and 5 before anything in the lists.
+/// Lists over the pricer's limits: 1, 10 and 2, also for numbers that are no whole list, come before
+/// 5, and 5 before anything in the lists.
 fn too_many(draw: &mut Draw, tally: &mut Tally) {
     let ask = Ask {
         processor: 9,
@@ -279,9 +283,11 @@ fn too_many(draw: &mut Draw, tally: &mut Tally) {
         let cut = refused_cut(draw, question.board, tables.clone(), &numbers);
         disturb_lengths(draw, &mut tables);
         let wrong_lengths = compared(&question, tables.clone(), &numbers);
-        question.board = draw.board_out_of_range(question.board);
-        let out_of_range = compared(&question, tables, &numbers);
-        assert_eq!([over, cut, wrong_lengths, out_of_range], [5, 2, 2, 1]);
+        question.board = draw.prices_out_of_range(question.board);
+        let prices = compared(&question, tables.clone(), &numbers);
+        question.board = draw.sizes_out_of_range(question.board);
+        let sizes = compared(&question, tables, &numbers);
+        assert_eq!([over, cut, wrong_lengths, prices, sizes], [5, 2, 2, 10, 1]);
         tally.count(over);
     }
 }
@@ -297,7 +303,8 @@ fn ask(processor: u32, variable: u32, write: Option<u32>) -> Ask {
     }
 }
 
-/// Cases with 2 processors, 2 lines, 3 words in a block and 5 blocks.
+/// Cases with 2 processors, 2 lines, 3 words in a block, 5 blocks, a fetch at 4 cycles and a
+/// write-back at 1.
 fn cases() -> Vec<Case> {
     use Move::*;
     let read = ask(0, 0, None);
@@ -313,10 +320,10 @@ fn cases() -> Vec<Case> {
         (vec![Fetch(0, 1), Fetch(0, 1)], vec![], Err((23, 1))),
         (vec![Fetch(0, 1), Fetch(0, 3)], vec![], Err((23, 1))),
         (vec![Fetch(0, 1), Fetch(0, 5)], vec![], Err((8, 1))),
-        (vec![Fetch(0, 1), Fetch(1, 3)], vec![], Ok(6)),
+        (vec![Fetch(0, 1), Fetch(1, 3)], vec![], Ok(8)),
         (vec![Fetch(0, 1), Drop(0, 3)], vec![], Err((24, 1))),
         (vec![WriteBack(0, 0)], vec![], Err((24, 0))),
-        (vec![Fetch(0, 0), WriteBack(0, 0)], vec![], Ok(6)),
+        (vec![Fetch(0, 0), WriteBack(0, 0)], vec![], Ok(5)),
         (vec![Complete], vec![], Err((26, 0))),
         (vec![Broadcast], vec![ask(2, 15, None)], Err((3, 0))),
         (vec![Broadcast], vec![ask(1, 15, None)], Err((4, 0))),
@@ -324,17 +331,17 @@ fn cases() -> Vec<Case> {
         (vec![Complete], vec![read], Err((27, 0))),
         (vec![Fetch(1, 0), Complete], vec![read], Err((27, 1))),
         (served(&[]), vec![read, read], Err((28, 2))),
-        (served(&[Drop(0, 0)]), vec![read], Ok(3)),
+        (served(&[Drop(0, 0)]), vec![read], Ok(4)),
         (served(&[Drop(0, 0)]), vec![write], Err((25, 2))),
         (
             served(&[Broadcast, Drop(0, 0)]),
             vec![write; 2],
             Err((25, 3)),
         ),
-        (served(&[Fetch(1, 0), Drop(0, 0)]), vec![write], Ok(6)),
-        (served(&[WriteBack(0, 0), Drop(0, 0)]), vec![write], Ok(6)),
-        (vec![Fetch(0, 0), Broadcast, Drop(0, 0)], vec![write], Ok(4)),
-        (vec![Fetch(0, 0), Fetch(1, 0), Complete], vec![write], Ok(7)),
+        (served(&[Fetch(1, 0), Drop(0, 0)]), vec![write], Ok(8)),
+        (served(&[WriteBack(0, 0), Drop(0, 0)]), vec![write], Ok(5)),
+        (vec![Fetch(0, 0), Broadcast, Drop(0, 0)], vec![write], Ok(5)),
+        (vec![Fetch(0, 0), Fetch(1, 0), Complete], vec![write], Ok(9)),
     ]
 }
 
@@ -346,6 +353,8 @@ fn conditions_in_order() {
         l: 2,
         p: 3,
         m: 5,
+        f: 4,
+        g: 1,
     };
     for (moves, asks, answer) in cases() {
         let question = Question { board, moves, asks };

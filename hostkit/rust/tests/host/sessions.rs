@@ -1,4 +1,5 @@
-//! The document's own cases, S1 to S12 and the printed trace, with nothing but the safe functions.
+//! The document's own cases, S1 to S12, some of them at other prices, and the printed trace, with
+//! nothing but the safe functions.
 
 use cuzkelor::{
     count_trace, look, run, start, Account, Block, Refusal, Request, RunError, Setup, Tables,
@@ -178,6 +179,8 @@ fn s9_the_lowest_other_holder_pays() {
 fn s10_one_word_two_holders() {
     let mut host = Host::fresh(Setup {
         block_words: 1,
+        fetch_price: 1,
+        write_back_price: 1,
         ..TRACE_SETUP
     });
     host.read(0, 0);
@@ -238,6 +241,88 @@ fn the_last_processor() {
     assert_eq!(Tables::started(of(9)), Err(Refusal::SetupOutOfRange));
     let mut tables = Tables::sized(of(8));
     assert_eq!(start(of(9), &mut tables), Err(Refusal::SetupOutOfRange));
+}
+
+fn priced(fetch_price: u32, write_back_price: u32) -> Setup {
+    Setup {
+        fetch_price,
+        write_back_price,
+        ..TRACE_SETUP
+    }
+}
+
+/// S1 and S3 to S6 at any prices: as many writes as a fetch has cycles empty the payer's line, and
+/// the next one is alone.
+fn writes_empty_the_payer(setup: Setup) {
+    let full = setup.fetch_price;
+    let mut host = Host::fresh(setup);
+    assert_eq!(host.read(0, 0), (0, [full, 0, 0]));
+    assert_eq!(host.write(0, 0, 7), (7, [0, 0, 0]));
+    assert_eq!(host.line_0(0), (full, 1));
+    assert_eq!(host.read(1, 0), (7, [full, 0, 0]));
+    for left in (1..=full).rev() {
+        assert_eq!(host.line_0(1), (left, 0));
+        assert_eq!(host.write(0, left % 4, left), (left, [0, 0, 1]));
+    }
+    assert_eq!(host.line_0(1), (0, 0));
+    assert_eq!(host.write(0, 0, 9), (9, [0, 0, 0]));
+    assert_eq!(host.line_0(0), (full, 1));
+}
+
+/// A fetch above, at and below the 4 words of a block.
+#[test]
+fn counters_follow_the_fetch_price() {
+    for fetch_price in [1, 2, 3, 4, 5, 6, 17, 32] {
+        writes_empty_the_payer(priced(fetch_price, 1));
+        writes_empty_the_payer(priced(fetch_price, fetch_price));
+    }
+}
+
+/// S7 at other prices, on the pipelined bus of document 003 among them.
+#[test]
+fn a_write_back_at_its_own_price() {
+    for [fetch_price, write_back_price] in [[5, 4], [32, 1], [2, 1], [1, 1]] {
+        let mut host = Host::fresh(priced(fetch_price, write_back_price));
+        host.write(0, 0, 7);
+        let cycles = [fetch_price, write_back_price, 0];
+        assert_eq!(host.read(0, 32), (0, cycles));
+        assert_eq!(host.tables.memory[0], 7);
+    }
+}
+
+/// 21 at a fetch of 5 and a write-back of 4 cycles, on each limit and one over it.
+#[test]
+fn an_account_at_its_limits() {
+    let most = |requests: u32| Account {
+        requests,
+        fetch: 5 * requests,
+        write_back: 4 * requests,
+        update: requests,
+    };
+    let run_none = |account: Account| {
+        let mut host = Host::fresh(priced(5, 4));
+        run(host.setup, &mut host.tables, &mut { account }, &[], &mut [])
+    };
+    for requests in [0, 1, 999_999, 800_000_000] {
+        let full = most(requests);
+        assert_eq!(run_none(full), Ok(()));
+        let [mut fetch, mut write_back, mut update] = [full; 3];
+        fetch.fetch += 1;
+        write_back.write_back += 1;
+        update.update += 1;
+        for over in [fetch, write_back, update] {
+            refused(run_none(over), Refusal::ImpossibleAccount);
+        }
+    }
+}
+
+#[test]
+fn the_last_price() {
+    assert!(Tables::started(priced(32, 32)).is_ok());
+    for (fetch_price, write_back_price) in [(0, 0), (0, 1), (33, 32), (33, 33), (4, 0), (4, 5)] {
+        let setup = priced(fetch_price, write_back_price);
+        assert_eq!(Tables::started(setup), Err(Refusal::PriceOutOfRange));
+    }
 }
 
 #[test]

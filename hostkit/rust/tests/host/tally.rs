@@ -1,25 +1,58 @@
-//! How often each refusal number occurred; 0 counts what was not refused.
+//! How often each kind of thing occurred: refusal numbers, 0 for what was not refused, or others.
 
+use crate::model::Board;
+use std::cmp::Ordering;
 use std::collections::BTreeMap;
+use std::fmt::Debug;
 
-#[derive(Default)]
-pub struct Tally(BTreeMap<u32, usize>);
+pub struct Tally<Kind = u32>(BTreeMap<Kind, usize>);
 
-impl Tally {
-    pub fn count(&mut self, number: u32) {
-        *self.0.entry(number).or_default() += 1;
+impl<Kind> Default for Tally<Kind> {
+    fn default() -> Tally<Kind> {
+        Tally(BTreeMap::new())
+    }
+}
+
+impl<Kind: Ord + Copy + Debug> Tally<Kind> {
+    pub fn count(&mut self, kind: Kind) {
+        *self.0.entry(kind).or_default() += 1;
     }
 
-    /// Prints the counts in one line, and asserts that each number that can occur did occur, and
-    /// no other one.
-    pub fn close(&self, name: &str, can_occur: &[u32]) {
-        let counts: Vec<String> = self
-            .0
-            .iter()
-            .map(|(number, count)| format!("{number}: {count}"))
-            .collect();
-        println!("{name}: counts by refusal number {{{}}}", counts.join(", "));
-        let occurred: Vec<u32> = self.0.keys().copied().collect();
-        assert_eq!(occurred, can_occur, "{name}: the numbers that occurred");
+    /// Prints the counts in one line, and asserts that each kind that can occur did occur, and no
+    /// other one.
+    pub fn close(&self, name: &str, can_occur: &[Kind]) {
+        println!("{name}: counts {:?}", self.0);
+        let occurred: Vec<Kind> = self.0.keys().copied().collect();
+        assert_eq!(occurred, can_occur, "{name}: what occurred");
+    }
+}
+
+/// How the prices stand to the words of a block and to one another.
+#[derive(Default)]
+pub struct Prices(Tally<&'static str>);
+
+impl Prices {
+    pub fn count(&mut self, board: Board) {
+        self.0.count(match board.f.cmp(&board.p) {
+            Ordering::Less => "f below p",
+            Ordering::Equal => "f equal to p",
+            Ordering::Greater => "f above p",
+        });
+        self.0.count(match board.g < board.f {
+            true => "g below f",
+            false => "g equal to f",
+        });
+    }
+
+    /// Every relation occurred.
+    pub fn close(&self, name: &str) {
+        let all = [
+            "f above p",
+            "f below p",
+            "f equal to p",
+            "g below f",
+            "g equal to f",
+        ];
+        self.0.close(name, &all);
     }
 }

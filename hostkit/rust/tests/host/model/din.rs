@@ -17,6 +17,8 @@ const BOARD: Board = Board {
     l: 8,
     p: 4,
     m: 64,
+    f: 4,
+    g: 4,
 };
 
 /// The lines without their newlines. What follows the last newline is a line unless it is empty.

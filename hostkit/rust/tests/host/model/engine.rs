@@ -35,8 +35,8 @@ impl Ledger {
 
     /// Condition 21.
     pub fn impossible(self, board: Board) -> bool {
-        let most = u64::from(board.p) * self.requests;
-        self.fetch > most || self.write_back > most || self.update > self.requests
+        let most = |price: u32| u64::from(price) * self.requests;
+        self.fetch > most(board.f) || self.write_back > most(board.g) || self.update > most(1)
     }
 }
 
@@ -93,7 +93,7 @@ impl Caches {
         let Some(old) = in_the_way else { return };
         if self.copies[&(i, old)].dirty {
             self.save(i, old);
-            bill.write_back += u64::from(self.board.p);
+            bill.write_back += u64::from(self.board.g);
         }
         self.copies.remove(&(i, old));
     }
@@ -107,19 +107,19 @@ impl Caches {
             self.save(j, block);
         }
         let copy = Copy {
-            counter: self.board.p,
+            counter: self.board.f,
             dirty: false,
             words: self.memory[&block].clone(),
         };
         self.copies.insert((i, block), copy);
-        bill.fetch += u64::from(self.board.p);
+        bill.fetch += u64::from(self.board.f);
     }
 
     /// Rules 4 and 5.
     fn write(&mut self, i: u32, block: u32, offset: usize, value: u32, bill: &mut Ledger) {
         let others: Vec<u32> = self.holders(block).filter(|&j| j != i).collect();
         let own = self.copies.get_mut(&(i, block)).expect("held");
-        own.counter = self.board.p;
+        own.counter = self.board.f;
         own.words[offset] = value;
         let Some(&payer) = others.first() else {
             own.dirty = true;

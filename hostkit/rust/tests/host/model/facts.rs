@@ -23,7 +23,7 @@ fn read_line(board: Board, tables: &Tables, at: usize) -> Result<Option<(u32, Co
         return if clear { Ok(None) } else { Err(()) };
     }
     let line = at as u32 % board.l;
-    if counter > board.p || mark > 1 || block >= board.m || block % board.l != line {
+    if counter > board.f || mark > 1 || block >= board.m || block % board.l != line {
         return Err(());
     }
     let copy = Copy {
@@ -37,7 +37,7 @@ fn read_line(board: Board, tables: &Tables, at: usize) -> Result<Option<(u32, Co
 /// Whether a copy agrees with the other copies and with memory.
 fn agrees(caches: &Caches, block: u32, copy: &Copy) -> bool {
     if copy.dirty {
-        copy.counter == caches.board.p && caches.holders(block).count() == 1
+        copy.counter == caches.board.f && caches.holders(block).count() == 1
     } else {
         copy.words == caches.memory[&block]
     }

@@ -11,21 +11,32 @@ pub use engine::{Caches, Ledger, Outcome};
 pub use facts::{read, rival_shown, shown, sizes};
 pub use rival::{price, Move, Rival};
 
-/// A setup: N processors, L lines, p words in a block, M blocks.
+/// A setup: N processors, L lines, p words in a block, M blocks, a fetch at f and a write-back at g
+/// cycles.
 #[derive(Clone, Copy, Debug, PartialEq, Eq)]
 pub struct Board {
     pub n: u32,
     pub l: u32,
     pub p: u32,
     pub m: u32,
+    pub f: u32,
+    pub g: u32,
+}
+
+/// Whether each number is from 1 to its most.
+fn within(limits: &[(u32, u32)]) -> bool {
+    limits
+        .iter()
+        .all(|&(number, most)| 0 < number && number <= most)
 }
 
 impl Board {
-    pub fn in_range(self) -> bool {
-        let limits = [(self.n, 8), (self.l, 64), (self.p, 16), (self.m, 256)];
-        limits
-            .iter()
-            .all(|&(number, most)| 0 < number && number <= most)
+    /// The refusal of the setup itself: 1 or 10.
+    pub fn refused(self) -> Option<u32> {
+        if !within(&[(self.n, 8), (self.l, 64), (self.p, 16), (self.m, 256)]) {
+            return Some(1);
+        }
+        (!within(&[(self.f, 32), (self.g, self.f)])).then_some(10)
     }
 
     /// The block of a variable, and its offset there.

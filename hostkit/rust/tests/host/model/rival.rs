@@ -64,14 +64,14 @@ impl Rival {
             self.copies.insert((j, block), false);
         }
         self.copies.insert((i, block), false);
-        Ok(self.board.p.into())
+        Ok(self.board.f.into())
     }
 
     fn write_back(&mut self, i: u32, block: u32) -> Result<u64, u32> {
         self.named(i, block)?;
         let dirty = self.copies.get_mut(&(i, block)).ok_or(24u32)?;
         *dirty = false;
-        Ok(self.board.p.into())
+        Ok(self.board.g.into())
     }
 
     fn drop(&mut self, i: u32, block: u32) -> Result<u64, u32> {
