@@ -66,9 +66,9 @@ fn damaged_place(setup: Setup, k: u32, block: u32, how: u32, x: u32) -> u32 {
 // What that cell becomes.
 fn damaged_number(setup: Setup, block: u32, mark: u32, how: u32, x: u32) -> u32 {
     match how {
-        0 => sum(setup.words, 1),
+        0 => sum(setup.fetch_price, 1),
         1 => 0,
-        2 => remainder(x, sum(setup.words, 1)),
+        2 => remainder(x, sum(setup.fetch_price, 1)),
         3 => remainder(x, sum(setup.blocks, 2)),
         4 => sum(block, setup.lines),
         5 => less(1, mark),

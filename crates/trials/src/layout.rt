@@ -22,6 +22,8 @@ pub const MOST_WORDS: u32 = 16;
 
 pub const MOST_BLOCKS: u32 = 256;
 
+pub const MOST_FETCH_PRICE: u32 = 32;
+
 pub const MOST_REQUESTS: u32 = 1000000;
 
 // Each processor with each block, and each variable, of the largest board.

@@ -13,6 +13,7 @@ use crate::board::set_counter;
 use crate::board::set_owner;
 use crate::layout::LENGTHS;
 use crate::layout::MOST_BLOCKS;
+use crate::layout::MOST_FETCH_PRICE;
 use crate::layout::MOST_LINES;
 use crate::layout::MOST_PROCESSORS;
 use crate::layout::MOST_WORDS;
@@ -21,6 +22,7 @@ use crate::layout::REAL;
 use crate::layout::TABLE_CELLS;
 use crate::layout::WANTED;
 use protocol_types::NO_REFUSAL;
+use protocol_types::PRICE_OUT_OF_RANGE;
 use protocol_types::SETUP_OUT_OF_RANGE;
 use protocol_types::Setup;
 use protocol_types::WRONG_LENGTH;
@@ -130,8 +132,8 @@ fn outside(x: u32, most: u32) -> bool {
     x == 0 || x > most
 }
 
-// Whether a number of the setup is out of range.
-pub(crate) fn setup_wrong(setup: Setup) -> bool {
+// Whether a size of the board is out of range.
+fn sizes_wrong(setup: Setup) -> bool {
     if outside(setup.processors, MOST_PROCESSORS) {
         return true;
     }
@@ -142,6 +144,25 @@ pub(crate) fn setup_wrong(setup: Setup) -> bool {
         return true;
     }
     outside(setup.blocks, MOST_BLOCKS)
+}
+
+// Whether a price is out of range: a write-back may cost as much as a fetch, and no more.
+fn prices_wrong(setup: Setup) -> bool {
+    if outside(setup.fetch_price, MOST_FETCH_PRICE) {
+        return true;
+    }
+    outside(setup.write_back_price, setup.fetch_price)
+}
+
+// The refusal of a setup, or 0.
+pub(crate) fn setup_refusal(setup: Setup) -> u32 {
+    if sizes_wrong(setup) {
+        return SETUP_OUT_OF_RANGE;
+    }
+    if prices_wrong(setup) {
+        return PRICE_OUT_OF_RANGE;
+    }
+    NO_REFUSAL
 }
 
 pub(crate) fn length_wrong(cells: &Cells, setup: Setup, values: u32, table: u32) -> bool {
@@ -233,9 +254,9 @@ fn load_copy(cells: &mut Cells, setup: Setup, k: u32, b: u32) -> u32 {
     load_marked(cells, k, i, b, setup.words)
 }
 
-// Whether slot k, which is not empty, has a counter over p, or a block that may not stand there.
+// Whether slot k, which is not empty, has a counter over f, or a block that may not stand there.
 fn slot_wrong(cells: &Cells, setup: Setup, k: u32) -> bool {
-    if get(cells, WANTED_COUNTERS, k) > setup.words {
+    if get(cells, WANTED_COUNTERS, k) > setup.fetch_price {
         return true;
     }
     let b = get(cells, WANTED, k);
@@ -267,14 +288,14 @@ fn load_slots(cells: &mut Cells, setup: Setup, n: u32) -> u32 {
     faults
 }
 
-// A marked block has counter p and one holder.
-fn block_faults(cells: &Cells, p: u32, b: u32) -> u32 {
+// A marked block has counter f and one holder.
+fn block_faults(cells: &Cells, fetch_price: u32, b: u32) -> u32 {
     let marked = owner(cells, b);
     if marked == 0 {
         return 0;
     }
     let i = less(marked, 1);
-    if counter(cells, i, b) != p {
+    if counter(cells, i, b) != fetch_price {
         return 1;
     }
     if other_holder(cells, i, b) < PROCESSORS {
@@ -283,11 +304,11 @@ fn block_faults(cells: &Cells, p: u32, b: u32) -> u32 {
     0
 }
 
-fn all_block_faults(cells: &Cells, p: u32) -> u32 {
+fn all_block_faults(cells: &Cells, fetch_price: u32) -> u32 {
     let mut faults = 0;
     let mut b = 0;
     while b < BLOCKS {
-        faults = sum(faults, block_faults(cells, p, b));
+        faults = sum(faults, block_faults(cells, fetch_price, b));
         b += 1;
     }
     faults
@@ -298,7 +319,7 @@ pub(crate) fn load(cells: &mut Cells, setup: Setup) -> u32 {
     clear(cells);
     load_memory(cells, variables(setup));
     let faults = load_slots(cells, setup, slots(setup));
-    sum(faults, all_block_faults(cells, setup.words))
+    sum(faults, all_block_faults(cells, setup.fetch_price))
 }
 
 // The slot of block b in processor i's cache.
@@ -375,8 +396,9 @@ pub(crate) fn lay_out(cells: &mut Cells, setup: Setup) {
 
 // Starting, over lent tables, which become what they should be after it: the refusal number, or 0.
 pub(crate) fn start(cells: &mut Cells, setup: Setup) -> u32 {
-    if setup_wrong(setup) {
-        return SETUP_OUT_OF_RANGE;
+    let refusal = setup_refusal(setup);
+    if refusal != NO_REFUSAL {
+        return refusal;
     }
     if lengths_wrong(cells, setup, 0, STARTED) {
         return WRONG_LENGTH;
@@ -395,7 +417,7 @@ fn look_lengths_wrong(cells: &Cells, setup: Setup) -> bool {
 
 // Whether a look at block b of processor i shows it, in the real tables.
 pub(crate) fn shows(cells: &Cells, setup: Setup, i: u32, b: u32) -> bool {
-    if setup_wrong(setup) {
+    if setup_refusal(setup) != NO_REFUSAL {
         return false;
     }
     if look_lengths_wrong(cells, setup) {

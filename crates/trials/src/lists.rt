@@ -140,27 +140,27 @@ pub(crate) fn pick_requests(cells: &mut Cells, setup: Setup, n: u32, wild: u32) 
     }
 }
 
-// Whether request t is a read by processor 1, once in p + 1 times after the first two.
-fn reads_again(p: u32, t: u32) -> bool {
-    remainder(less(t, 2), sum(p, 1)) == p
+// Whether request t is a read by processor 1, once in f + 1 times after the first two.
+fn reads_again(fetch_price: u32, t: u32) -> bool {
+    remainder(less(t, 2), sum(fetch_price, 1)) == fetch_price
 }
 
-fn tight_request(cells: &mut Cells, p: u32, t: u32) {
+fn tight_request(cells: &mut Cells, fetch_price: u32, t: u32) {
     let x = word(cells);
     if t < 2 {
         put_request(cells, t, t, 0, 0, x);
         return;
     }
-    let again = reads_again(p, t);
+    let again = reads_again(fetch_price, t);
     put_request(cells, t, again as u32, !again as u32, 0, x);
 }
 
-// Variable 0 is read by 0 and by 1, and then written p times by 0 and read by 1, over and over: a rival that keeps both
+// Variable 0 is read by 0 and by 1, and then written f times by 0 and read by 1, over and over: a rival that keeps both
 // copies pays about half of what the engine does.
-pub(crate) fn tight_requests(cells: &mut Cells, p: u32, n: u32) {
+pub(crate) fn tight_requests(cells: &mut Cells, fetch_price: u32, n: u32) {
     let mut t = 0;
     while t < n {
-        tight_request(cells, p, t);
+        tight_request(cells, fetch_price, t);
         t += 1;
     }
 }

@@ -328,7 +328,7 @@ fn pick_schedule(cells: &mut Cells, setup: Setup, n: u32) -> u32 {
     let turns = pick_turns(cells, n);
     let tight = draw(cells, 6);
     if tight == 0 && setup.processors > 1 {
-        lists::tight_requests(cells, setup.words, n);
+        lists::tight_requests(cells, setup.fetch_price, n);
         return build(cells, setup, n, style_of(style.wild, 0), turns);
     }
     lists::pick_requests(cells, setup, n, product(style.wild, 10));

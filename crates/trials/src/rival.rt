@@ -24,7 +24,6 @@ use protocol_types::NO_SUCH_BLOCK;
 use protocol_types::NO_SUCH_PROCESSOR;
 use protocol_types::READ_BY_BROADCAST;
 use protocol_types::REQUESTS_LEFT;
-use protocol_types::SETUP_OUT_OF_RANGE;
 use protocol_types::Setup;
 use protocol_types::WRONG_LENGTH;
 use trials_cells::cells::Cells;
@@ -119,7 +118,7 @@ fn move_refusal(cells: &Cells, setup: Setup, entry: Move) -> u32 {
 }
 
 // A fetch, a write-back or a drop, which nothing refuses: its cost.
-fn moved(cells: &mut Cells, p: u32, entry: Move) -> u32 {
+fn moved(cells: &mut Cells, setup: Setup, entry: Move) -> u32 {
     let i = entry.processor;
     let b = entry.block;
     if entry.kind == DROP {
@@ -128,7 +127,10 @@ fn moved(cells: &mut Cells, p: u32, entry: Move) -> u32 {
     }
     set_owner(cells, b, 0);
     set_counter(cells, i, b, 1);
-    p
+    if entry.kind == WRITE_BACK {
+        return setup.write_back_price;
+    }
+    setup.fetch_price
 }
 
 // The cost of a write by processor i, which has block b: alone it marks the block.
@@ -199,7 +201,7 @@ pub(crate) fn play_entry(
         return refused(play, refusal, place);
     }
     if entry.kind < COMPLETE {
-        let cost = moved(cells, setup.words, entry);
+        let cost = moved(cells, setup, entry);
         return paid(play, cost, false);
     }
     let cost = complete(cells, setup.words, play.done, entry.kind != COMPLETE);
@@ -256,8 +258,9 @@ fn ended(play: Play, count: u32, n: u32) -> Play {
 
 // The refusal of the setup, of m numbers of entries and n of requests, and of the pricer's tables.
 fn price_refusal(cells: &Cells, setup: Setup, m: u32, n: u32) -> u32 {
-    if lent::setup_wrong(setup) {
-        return SETUP_OUT_OF_RANGE;
+    let refusal = lent::setup_refusal(setup);
+    if refusal != NO_REFUSAL {
+        return refusal;
     }
     if partial(m, ENTRY_WIDTH) || partial(n, REQUEST_WIDTH) {
         return WRONG_LENGTH;

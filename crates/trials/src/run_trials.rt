@@ -12,6 +12,7 @@ use crate::served::Outcome;
 use crate::setups;
 use protocol_types::Account;
 use protocol_types::IMPOSSIBLE_ACCOUNT;
+use protocol_types::NO_REFUSAL;
 use protocol_types::Setup;
 use protocol_types::UNSOUND_TABLES;
 use trials_cells::cells::Cells;
@@ -114,19 +115,20 @@ fn start_both(cells: &mut Cells, setup: Setup, case: u32) {
 
 // Each number at 0, 1, its largest and one more.
 fn chosen_setup(setup: Setup, case: u32) -> Setup {
-    let which = case / 4 % 4;
+    let which = case / 4 % setups::NUMBERS;
+    let most = setups::most(setup, which);
     match case % 4 {
         0 => setups::with_number(setup, which, 0),
         1 => setups::with_number(setup, which, 1),
-        2 => setups::with_number(setup, which, setups::most(which)),
-        _ => setups::with_number(setup, which, sum(setups::most(which), 1)),
+        2 => setups::with_number(setup, which, most),
+        _ => setups::with_number(setup, which, sum(most, 1)),
     }
 }
 
-// The first sixteen cases have chosen setups; the others are drawn.
+// The first cases have chosen setups; the others are drawn.
 fn start_setup(cells: &mut Cells, setup: Setup, case: u32) -> Setup {
     let drawn = setups::perhaps_wrong_setup(cells, setup, 6);
-    if case >= 16 {
+    if case >= 4 * setups::NUMBERS {
         return drawn;
     }
     chosen_setup(setup, case)
@@ -134,7 +136,7 @@ fn start_setup(cells: &mut Cells, setup: Setup, case: u32) -> Setup {
 
 // The lengths for a setup; those of another one where it is out of range.
 fn put_start_lengths(cells: &mut Cells, setup: Setup, other: Setup) {
-    if lent::setup_wrong(setup) {
+    if lent::setup_refusal(setup) != NO_REFUSAL {
         lent::put_lengths(cells, other, 0);
         return;
     }
@@ -287,7 +289,7 @@ fn look_case(cells: &mut Cells, right: Setup, case: u32) {
 // A new list: its setup, its account, and how many runs it has.
 fn pick_series(cells: &mut Cells) -> Series {
     let setup = setups::pick_setup(cells);
-    let account = setups::pick_account(cells, setup.words);
+    let account = setups::pick_account(cells, setup);
     let left = draw(cells, 8);
     Series {
         setup: setup,

@@ -12,8 +12,8 @@ use crate::board::set_counter;
 use crate::board::set_current;
 use crate::board::set_owner;
 use crate::board::set_stored;
+use crate::layout::MOST_FETCH_PRICE;
 use crate::layout::MOST_REQUESTS;
-use crate::layout::MOST_WORDS;
 use crate::layout::WANTED;
 use crate::lent;
 use crate::lists::REQUEST_WIDTH;
@@ -26,7 +26,6 @@ use protocol_types::IMPOSSIBLE_ACCOUNT;
 use protocol_types::NO_REFUSAL;
 use protocol_types::NO_SUCH_PROCESSOR;
 use protocol_types::NO_SUCH_VARIABLE;
-use protocol_types::SETUP_OUT_OF_RANGE;
 use protocol_types::Setup;
 use protocol_types::UNSOUND_TABLES;
 use protocol_types::WRONG_LENGTH;
@@ -63,13 +62,13 @@ pub struct Outcome {
 }
 
 // Block a leaves processor i: the cycles of writing it back if it was marked.
-fn leave(cells: &mut Cells, p: u32, i: u32, a: u32) -> u32 {
+fn leave(cells: &mut Cells, setup: Setup, i: u32, a: u32) -> u32 {
     set_counter(cells, i, a, 0);
     if !owns(cells, i, a) {
         return 0;
     }
-    save(cells, p, a);
-    p
+    save(cells, setup.words, a);
+    setup.write_back_price
 }
 
 // A block in the way of b leaves.
@@ -78,7 +77,7 @@ fn make_room(cells: &mut Cells, setup: Setup, i: u32, b: u32) -> u32 {
     if a >= BLOCKS {
         return 0;
     }
-    leave(cells, setup.words, i, a)
+    leave(cells, setup, i, a)
 }
 
 // Whoever has b marked gives its words to main memory.
@@ -99,16 +98,16 @@ fn bring(cells: &mut Cells, setup: Setup, i: u32, b: u32) -> Moved {
     }
     let write_back = make_room(cells, setup, i, b);
     reclaim(cells, setup.words, b);
-    set_counter(cells, i, b, setup.words);
+    set_counter(cells, i, b, setup.fetch_price);
     Moved {
-        fetch: setup.words,
+        fetch: setup.fetch_price,
         write_back: write_back,
     }
 }
 
 // Processor i, which has block b, writes x to variable v: the update cycles.
-fn change(cells: &mut Cells, p: u32, i: u32, b: u32, v: u32, x: u32) -> u32 {
-    set_counter(cells, i, b, p);
+fn change(cells: &mut Cells, fetch_price: u32, i: u32, b: u32, v: u32, x: u32) -> u32 {
+    set_counter(cells, i, b, fetch_price);
     set_current(cells, v, x);
     let payer = other_holder(cells, i, b);
     if payer >= PROCESSORS {
@@ -128,7 +127,7 @@ pub(crate) fn serve(cells: &mut Cells, setup: Setup, request: Request) -> Served
     let b = quotient(v, setup.words);
     let moved = bring(cells, setup, i, b);
     if request.write {
-        let update = change(cells, setup.words, i, b, v, request.value);
+        let update = change(cells, setup.fetch_price, i, b, v, request.value);
         return served_at(moved, request.value, update);
     }
     served_at(moved, current(cells, v), 0)
@@ -177,17 +176,17 @@ fn refused(setup: Setup, so_far: Outcome, request: Request) -> u32 {
     NO_REFUSAL
 }
 
-// Whether the cycles of a kind are more than p × requests, in 64 bits.
-fn over(cycles: u32, p: u32, requests: u32) -> bool {
-    cycles as u64 > times(requests, p)
+// Whether the cycles of a kind are more than price × requests, in 64 bits.
+fn over(cycles: u32, price: u32, requests: u32) -> bool {
+    cycles as u64 > times(requests, price)
 }
 
-// p × requests, p at most MOST_WORDS, by adding.
-fn times(requests: u32, p: u32) -> u64 {
+// price × requests, the price at most MOST_FETCH_PRICE, by adding.
+fn times(requests: u32, price: u32) -> u64 {
     let mut all: u64 = 0;
     let mut k = 0;
-    while k < MOST_WORDS {
-        if k < p {
+    while k < MOST_FETCH_PRICE {
+        if k < price {
             all = std::num::wrapping_add_u64(all, requests as u64);
         }
         k += 1;
@@ -196,11 +195,11 @@ fn times(requests: u32, p: u32) -> u64 {
 }
 
 // Whether an account is impossible.
-fn impossible(p: u32, account: Account) -> bool {
-    if over(account.fetch, p, account.requests) {
+fn impossible(setup: Setup, account: Account) -> bool {
+    if over(account.fetch, setup.fetch_price, account.requests) {
         return true;
     }
-    if over(account.write_back, p, account.requests) {
+    if over(account.write_back, setup.write_back_price, account.requests) {
         return true;
     }
     account.update > account.requests
@@ -260,8 +259,9 @@ fn take_all(cells: &mut Cells, setup: Setup, n: u32, account: Account) -> Outcom
 
 // The refusal of a run of so many numbers as a whole; the facts become what the tables show.
 fn run_refusal(cells: &mut Cells, setup: Setup, account: Account, numbers: u32) -> u32 {
-    if lent::setup_wrong(setup) {
-        return SETUP_OUT_OF_RANGE;
+    let refusal = lent::setup_refusal(setup);
+    if refusal != NO_REFUSAL {
+        return refusal;
     }
     if partial(numbers, REQUEST_WIDTH) {
         return WRONG_LENGTH;
@@ -272,7 +272,7 @@ fn run_refusal(cells: &mut Cells, setup: Setup, account: Account, numbers: u32) 
     if lent::load(cells, setup) > 0 {
         return UNSOUND_TABLES;
     }
-    if impossible(setup.words, account) {
+    if impossible(setup, account) {
         return IMPOSSIBLE_ACCOUNT;
     }
     NO_REFUSAL

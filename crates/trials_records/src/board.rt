@@ -12,6 +12,10 @@ const WORDS: u32 = 2;
 
 pub const BLOCKS: u32 = 5;
 
+const FETCH_PRICE: u32 = 3;
+
+const WRITE_BACK_PRICE: u32 = 1;
+
 pub const VARIABLES: u32 = BLOCKS * WORDS;
 
 pub const SLOTS: usize = (PROCESSORS * LINES) as usize;
@@ -41,6 +45,8 @@ pub(crate) fn setup() -> Setup {
         lines: LINES,
         words: WORDS,
         blocks: BLOCKS,
+        fetch_price: FETCH_PRICE,
+        write_back_price: WRITE_BACK_PRICE,
     }
 }
 

@@ -24,8 +24,8 @@ fn write(processor: u32, variable: u32, value: u32) -> Request {
     }
 }
 
-// Two misses; two writes by broadcast, the second of which empties the payer's line; a write alone; a hit; a miss that
-// writes a marked block back; a read of what was written back.
+// Two misses; three writes by broadcast, the last of which empties the payer's line; a write alone; a miss that writes a
+// marked block back; a read of what was written back.
 fn session() -> [Request; REQUESTS] {
     [
         read(0, 0),
@@ -33,7 +33,7 @@ fn session() -> [Request; REQUESTS] {
         write(0, 0, 11),
         write(0, 1, 12),
         write(0, 0, 13),
-        read(0, 1),
+        write(0, 1, 14),
         read(0, 4),
         read(1, 0),
     ]

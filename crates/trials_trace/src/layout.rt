@@ -41,6 +41,10 @@ pub const LINES: u32 = 8;
 
 pub const BLOCK_WORDS: u32 = 4;
 
+pub const FETCH_PRICE: u32 = 4;
+
+pub const WRITE_BACK_PRICE: u32 = 4;
+
 pub const SLOTS: u32 = 32;
 
 pub const ALL_WORDS: u32 = 128;

@@ -2,6 +2,7 @@
 use crate::layout::ALL_WORDS;
 use crate::layout::BLOCK_WORDS;
 use crate::layout::COUNTERS;
+use crate::layout::FETCH_PRICE;
 use crate::layout::LINES;
 use crate::layout::MARKS;
 use crate::layout::MEMORY;
@@ -10,6 +11,7 @@ use crate::layout::PROCESSORS;
 use crate::layout::SLOTS;
 use crate::layout::VARIABLES;
 use crate::layout::WORDS;
+use crate::layout::WRITE_BACK_PRICE;
 use trials_cells::cells::Cells;
 use trials_cells::cells::copy;
 use trials_cells::cells::get;
@@ -80,7 +82,7 @@ fn write_back(cells: &mut Cells, k: u32) -> u32 {
     let b = get(cells, NUMBERS, k);
     copy(cells, line_words(k), home(b), BLOCK_WORDS);
     put(cells, MARKS, k, 0);
-    BLOCK_WORDS
+    WRITE_BACK_PRICE
 }
 
 fn empty_line(cells: &mut Cells, k: u32) {
@@ -108,7 +110,7 @@ fn release_line(cells: &mut Cells, j: u32, b: u32) {
 fn fill_line(cells: &mut Cells, k: u32, b: u32) {
     release(cells, b);
     put(cells, NUMBERS, k, b);
-    put(cells, COUNTERS, k, BLOCK_WORDS);
+    put(cells, COUNTERS, k, FETCH_PRICE);
     copy(cells, home(b), line_words(k), BLOCK_WORDS);
 }
 
@@ -121,7 +123,7 @@ fn obtain(cells: &mut Cells, i: u32, b: u32) -> Cycles {
     let written = write_back(cells, k);
     empty_line(cells, k);
     fill_line(cells, k, b);
-    cycles_of(BLOCK_WORDS, written, 0)
+    cycles_of(FETCH_PRICE, written, 0)
 }
 
 // The word of variable v in processor j's line becomes x, if it holds the block.
@@ -154,7 +156,7 @@ fn write(cells: &mut Cells, i: u32, v: u32, x: u32) -> u32 {
     let b = quotient(v, BLOCK_WORDS);
     let k = slot(i, b);
     let payer = other_holder(cells, i, b);
-    put(cells, COUNTERS, k, BLOCK_WORDS);
+    put(cells, COUNTERS, k, FETCH_PRICE);
     update_lines(cells, v, x);
     if payer >= PROCESSORS {
         put(cells, MARKS, k, 1);

@@ -5,10 +5,10 @@ use Rattle.trials.proofs.lent.all_block_faults.Statement.{statement}
 use Rattle.trials.proofs.lent.all_block_faults.Tie as tie
 
 abbrev Inv-loop : tie.InvT-loop
-Inv-loop cells p faults₀ b₀ faults b = 0 ≤ b
+Inv-loop cells fetch-price faults₀ b₀ faults b = 0 ≤ b
 
 abbrev μ-loop : tie.MeasureT-loop
-μ-loop cells p faults₀ b₀ faults b = 256 - b
+μ-loop cells fetch-price faults₀ b₀ faults b = 256 - b
 
 pub all-block-faults-spec : {M : Type 1} → statement M
 all-block-faults-spec =
