@@ -93,7 +93,7 @@ abbrev pub numbersOf : Verdict → PriceNumbers
 numbersOf (accepted r c) = numbered noRefusal 0 (cycles c)
 numbersOf (refused n k) = numbered n k 0
 
--- of a price: "with no refusal, or one of those five, the place is 0"
+-- of a price: "with no refusal, or one of those five, the place is 0", and so by 10
 unfoldable pub priceNumbers : Setup → Rival → List Request → List Entry → PriceNumbers
 priceNumbers s lent qs es =
     cond (eqb (priceRefusal s lent (length es) (length qs)) noRefusal) (numbersOf (verdict s qs es))

@@ -1647,7 +1647,7 @@ rows =
       lines = copy 1 3 5 0 (0 ∷ 0 ∷ []) ∷ [];
       memory = cell 2 7 ∷ [];
     })
-    -- and p being above both
+    -- a miss that writes back, p being above both
     ∷ session (record {
       setup = cheapFetch;
       account = account 0 0 0 0;
@@ -1801,7 +1801,7 @@ rows =
       lines = copy 3 1 5 0 (0 ∷ 0 ∷ []) ∷ [];
       memory = [];
     })
-    -- 21: fetch cycles over f × requests
+    -- 21: fetch cycles over f × requests, p below f
     ∷ session (record {
       setup = dearFetch;
       account = account 2 11 6 2;
@@ -1815,7 +1815,7 @@ rows =
       lines = [];
       memory = [];
     })
-    -- 21: write-back cycles over g × requests
+    -- 21: write-back cycles over g × requests, but not over f × requests
     ∷ session (record {
       setup = dearFetch;
       account = account 2 10 7 2;
@@ -1857,7 +1857,7 @@ rows =
       lines = [];
       memory = [];
     })
-    -- 21: write-back cycles over g × requests, but not over f × requests
+    -- 21: write-back cycles over g × requests, but not over p × requests
     ∷ session (record {
       setup = cheapFetch;
       account = account 2 6 5 2;
@@ -1871,21 +1871,21 @@ rows =
       lines = [];
       memory = [];
     })
-    -- the products are not cut to 32 bits: 2^27 requests
+    -- the products are not cut to 32 bits: 32 × 2^27 is 2^32
     ∷ session (record {
-      setup = pricedBoard 2 2 2 5 32 31;
-      account = account 134217728 4294967295 4160749568 0;
+      setup = pricedBoard 2 2 2 5 32 32;
+      account = account 134217728 4294967295 4294967295 0;
       before = [];
       requests = read 1 2 ∷ [];
       values = 9 ∷ [];
       answer = answered 0 22 0;
       cost = cost 0 0 0;
-      left = account 134217728 4294967295 4160749568 0;
+      left = account 134217728 4294967295 4294967295 0;
       changes = false;
       lines = [];
       memory = [];
     })
-    -- 21: one over such a product
+    -- 21: one over 31 × 2^27
     ∷ session (record {
       setup = pricedBoard 2 2 2 5 32 31;
       account = account 134217728 4294967295 4160749569 0;
@@ -1929,7 +1929,7 @@ rows =
     })
     -- counters over p and up to f are sound, and so is a marked block with counter f
     ∷ tabled dearFetch (tables (4 ∷ 3 ∷ 4 ∷ 0 ∷ []) (5 ∷ 5 ∷ 3 ∷ 0 ∷ []) (0 ∷ 1 ∷ 0 ∷ 0 ∷ []) (8 ∷ 9 ∷ 5 ∷ 6 ∷ 8 ∷ 9 ∷ 0 ∷ 0 ∷ []) (0 ∷ 0 ∷ 0 ∷ 0 ∷ 0 ∷ 0 ∷ 7 ∷ 7 ∷ 8 ∷ 9 ∷ [])) 0
-    -- 20: a counter over f
+    -- 20: a counter over f, p below f
     ∷ tabled dearFetch (tables (4 ∷ 3 ∷ 4 ∷ 0 ∷ []) (6 ∷ 5 ∷ 3 ∷ 0 ∷ []) (0 ∷ 1 ∷ 0 ∷ 0 ∷ []) (8 ∷ 9 ∷ 5 ∷ 6 ∷ 8 ∷ 9 ∷ 0 ∷ 0 ∷ []) (0 ∷ 0 ∷ 0 ∷ 0 ∷ 0 ∷ 0 ∷ 7 ∷ 7 ∷ 8 ∷ 9 ∷ [])) 20
     -- 20: a marked block with counter p, below f
     ∷ tabled dearFetch (tables (4 ∷ 3 ∷ 4 ∷ 0 ∷ []) (5 ∷ 2 ∷ 3 ∷ 0 ∷ []) (0 ∷ 1 ∷ 0 ∷ 0 ∷ []) (8 ∷ 9 ∷ 5 ∷ 6 ∷ 8 ∷ 9 ∷ 0 ∷ 0 ∷ []) (0 ∷ 0 ∷ 0 ∷ 0 ∷ 0 ∷ 0 ∷ 7 ∷ 7 ∷ 8 ∷ 9 ∷ [])) 20
@@ -2025,7 +2025,7 @@ rows =
       held = 0 ∷ 1 ∷ 0 ∷ 1 ∷ [];
       marks = 0 ∷ 0 ∷ 0 ∷ 0 ∷ [];
     })
-    -- and p being above both
+    -- a rival pays f, g and 1, p being above f and g
     ∷ quote (record {
       setup = cheapFetch;
       requests = write 1 12 5 ∷ write 1 12 4 ∷ [];
@@ -2072,6 +2072,18 @@ rows =
       blocks = 0 ∷ 1 ∷ 0 ∷ 1 ∷ [];
       held = 0 ∷ 1 ∷ 0 ∷ 1 ∷ [];
       marks = 0 ∷ 0 ∷ 0 ∷ 0 ∷ [];
+    })
+    -- 10: tables untouched
+    ∷ quote (record {
+      setup = pricedBoard 2 2 3 5 3 4;
+      requests = write 1 10 5 ∷ [];
+      entries = fetchEntry 1 3 ∷ [];
+      number = 10;
+      place = 0;
+      cost = 0;
+      blocks = 7 ∷ 7 ∷ 7 ∷ 7 ∷ [];
+      held = 7 ∷ 7 ∷ 7 ∷ 7 ∷ [];
+      marks = 7 ∷ 7 ∷ 7 ∷ 7 ∷ [];
     })
     -- 10 to the pricer: the limits, and each price beyond them
     ∷ checked (pricedBoard 2 2 2 5 32 32) 4 4 4 0 0 0

@@ -1,18 +1,18 @@
 -- Laws of the board: the setup's range as facts, and the arithmetic of blocks, slots and words.
 use Prim.Native.Nat.{ℕ, suc, _+_, _*_, _/_, _%_, _≤_, _<_}
-use mathlib.Core.Path.{_≡_, sym, ap, _∙_}
+use mathlib.Core.Path.{_≡_, refl, sym, ap, _∙_}
 use mathlib.Core.Logic.{_≢_}
-use mathlib.Core.Bool.{true}
+use mathlib.Core.Bool.{Bool, true, false}
 use native.Mathlib.Omega.{arith}
 use native.Mathlib.Nat.{mod-lt, mul-le-mul, mul-le-mul-right, suc-mul, div-lt-iff-lt-mul, mul-add-mod-self-right, mod-eq-of-lt, mul-add-div-right, div-eq-of-lt, add-zero, div-add-mod'}
 use lib.Dec.{leb}
 use borrow.Author.Tests.{leb-true}
-use Rattle.protocol_types.specs.Refusals.{noRefusal, unless, setupOutOfRange, priceOutOfRange}
+use Rattle.protocol_types.specs.Refusals.{noRefusal}
 use Rattle.protocol_types.specs.Board.{sizesInRange, priceLimit, pricesInRange, setupRefusal, Fits, variables, slots, lineSlot, slot, wordIndex, blockOf, offsetOf, lineOf, fetchPrice, writeBackPrice, mostWriteBack}
 use Rattle.protocol_types.specs.declared.Setup.{Setup}
 use Rattle.protocol_types.specs.declared.Variable.{Variable}
 use Rattle.protocol_types.specs.declared.Block.{Block}
-use Rattle.protocol_types.proofs.Laws.{both-true, chosen-zero, Same, same, apart, same?}
+use Rattle.protocol_types.proofs.Laws.{both-true, Same, same, apart, same?}
 
 -- ---- the range
 
@@ -49,10 +49,13 @@ in-range-fits s e prices =
 
 pub setup-fits : (s : Setup) → setupRefusal s ≡ noRefusal → Fits s
 unfolding setupRefusal
-setup-fits s e =
-    let prices = unless (pricesInRange s) priceOutOfRange noRefusal in
-    let sizes = chosen-zero (sizesInRange s) prices setupOutOfRange (omega arith) e in
-    in-range-fits s (sizes .0) (chosen-zero (pricesInRange s) noRefusal priceOutOfRange (omega arith) (sizes .1) .0)
+setup-fits s e = go (sizesInRange s) (pricesInRange s) refl refl
+  where
+    go : (a b : Bool) → sizesInRange s ≡ a → pricesInRange s ≡ b → Fits s
+    go true true h k = in-range-fits s h k
+    go true false h k = absurd (omega (arith, simp (h, k) at e))
+    go false true h k = absurd (omega (arith, simp (h, k) at e))
+    go false false h k = absurd (omega (arith, simp (h, k) at e))
 
 -- ---- rows of width n: row i, column x
 

@@ -8,7 +8,7 @@ use Rattle.protocol_types.specs.declared.Setup.{Setup}
 use Rattle.protocol_types.specs.declared.Variable.{Variable}
 use Rattle.protocol_types.specs.declared.Block.{Block}
 
--- ---- 1: a setup number out of range
+-- ---- 1: N, L, p or M out of range
 
 -- a number from 1 to n
 abbrev pub within : ℕ → ℕ → Bool

@@ -19,7 +19,7 @@ firstOf before after = cond (eqb before noRefusal) after before
 
 -- ---- the numbers
 
--- 1: a setup number out of range
+-- 1: a setup number out of range: N, L, p or M
 abbrev pub setupOutOfRange : ℕ
 setupOutOfRange = 1
 
