@@ -39,7 +39,7 @@ extern "C" {
  * PLACE: a request, an entry or a line, or the end of a schedule. The answer says which one, and each function what it
  * leaves then. */
 #define CUZKELOR_REFUSALS(X)                                                                                           \
-    X(CUZKELOR_SETUP_OUT_OF_RANGE, 1, CALL, "a setup number is out of range")                                          \
+    X(CUZKELOR_SETUP_OUT_OF_RANGE, 1, CALL, "a size of the setup is out of range")                                     \
     X(CUZKELOR_WRONG_LENGTH, 2, CALL, "a buffer's length is not the one that the setup or the list requires")          \
     X(CUZKELOR_NO_SUCH_PROCESSOR, 3, PLACE, "no such processor")                                                       \
     X(CUZKELOR_NO_SUCH_VARIABLE, 4, PLACE, "no such variable")                                                         \

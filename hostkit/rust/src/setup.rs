@@ -78,27 +78,27 @@ impl Setup {
             && (1..=self.fetch_price).contains(&self.write_back_price)
     }
 
-    /// The lines of all caches: the length of block numbers, counters and marks. 0 where the setup is
+    /// The lines of all caches: the length of block numbers, counters and marks. 0 where a size is
     /// out of range, so that no length overflows.
     #[must_use]
     pub fn slot_count(self) -> usize {
         self.length([self.processors, self.lines])
     }
 
-    /// The words of all lines. 0 where the setup is out of range.
+    /// The words of all lines. 0 where a size is out of range.
     #[must_use]
     pub fn word_count(self) -> usize {
         self.length([self.processors, self.lines, self.block_words])
     }
 
-    /// The variables: the words of main memory. 0 where the setup is out of range.
+    /// The variables: the words of main memory. 0 where a size is out of range.
     #[must_use]
     pub fn variable_count(self) -> usize {
         self.length([self.block_words, self.block_count])
     }
 
     fn length<const COUNT: usize>(self, factors: [u32; COUNT]) -> usize {
-        if !self.in_range() {
+        if !self.sizes_in_range() {
             return 0;
         }
         factors.map(|factor| factor as usize).iter().product()

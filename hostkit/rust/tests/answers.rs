@@ -39,7 +39,7 @@ fn refusals_of_calls() {
 fn refusals_in_words() {
     assert_eq!(
         text(Refusal::SetupOutOfRange),
-        "refused by 1: a setup number is out of range"
+        "refused by 1: a size of the setup is out of range"
     );
     assert_eq!(
         text(Refusal::PriceOutOfRange),

@@ -9,7 +9,7 @@ use cuzkelor::{run, Account, Request, Setup, Tables, Variable};
 use std::hint::black_box;
 use std::time::Duration;
 
-const BAR: f64 = 1.25;
+const BAR: f64 = 1.1;
 
 const SMALL: Setup = cuzkelor::TRACE_SETUP;
 
@@ -116,7 +116,19 @@ fn least(setup: Setup, lists: &[Vec<Request>], times: u32) -> (Duration, Duratio
     least
 }
 
-fn measure(name: &str, setup: Setup, requests: usize, run_length: usize, times: u32) -> f64 {
+/// A setup's letters and numbers.
+fn name(setup: Setup) -> String {
+    let (n, l, p, m) = (
+        setup.processors,
+        setup.lines,
+        setup.block_words,
+        setup.block_count,
+    );
+    let (f, g) = (setup.fetch_price, setup.write_back_price);
+    format!("N {n} L {l} p {p} M {m} f {f} g {g}")
+}
+
+fn measure(setup: Setup, requests: usize, run_length: usize, times: u32) -> f64 {
     // Neither engine is compiled for the numbers of one setup.
     let setup = black_box(setup);
     let mut draw = Draw(1988);
@@ -127,7 +139,8 @@ fn measure(name: &str, setup: Setup, requests: usize, run_length: usize, times: 
     let rate = |time: Duration| requests as f64 / time.as_secs_f64() / 1e6;
     let ratio = archive.as_secs_f64() / plain.as_secs_f64();
     println!(
-        "{name}, runs of {run_length:>7}: archive {:8.3} million requests/s, plain {:8.3}, ratio {ratio:.2}",
+        "{}, runs of {run_length:>7}: archive {:8.3} million requests/s, plain {:8.3}, ratio {ratio:.2}",
+        name(setup),
         rate(archive),
         rate(plain)
     );
@@ -139,12 +152,12 @@ fn main() {
         .nth(1)
         .map_or(15, |text| text.parse().expect("how often"));
     println!("least time of {times} each, in turn");
-    let ratio = measure("N 4 L 8 p 4 M 64", SMALL, 1_000_000, 1_000_000, times);
-    measure("N 4 L 8 p 4 M 64", SMALL, 1_000_000, 1_000, times);
-    measure("N 4 L 8 p 4 M 64", SMALL, 100_000, 1, times);
-    measure("N 8 L 64 p 16 M 256", LARGE, 1_000_000, 1_000_000, times);
-    measure("N 8 L 64 p 16 M 256", LARGE, 1_000_000, 1_000, times);
-    measure("N 8 L 64 p 16 M 256", LARGE, 5_000, 1, times);
+    let ratio = measure(SMALL, 1_000_000, 1_000_000, times);
+    measure(SMALL, 1_000_000, 1_000, times);
+    measure(SMALL, 100_000, 1, times);
+    measure(LARGE, 1_000_000, 1_000_000, times);
+    measure(LARGE, 1_000_000, 1_000, times);
+    measure(LARGE, 5_000, 1, times);
     let verdict = if ratio <= BAR { "met" } else { "missed" };
     println!("ratio {ratio:.2} at runs of 1,000,000 on the trace's setup; bar {BAR}: {verdict}");
 }
