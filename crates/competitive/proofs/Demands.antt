@@ -8,6 +8,7 @@ use Rattle.competitive.proofs.Claim.{claim}
 use Rattle.competitive.proofs.Tight.{tight-list}
 use Rattle.competitive.proofs.LastValues.{last-values}
 use Rattle.competitive.proofs.Priced.{judged-right, priced-right}
+use Rattle.competitive.proofs.Generator.{repeatable}
 use Rattle.competitive.proofs.EngineSchedule.{runs-rival}
 
 pub demands : (s : Setup) → setupRefusal s ≡ noRefusal → Demands s
@@ -16,5 +17,6 @@ demands s accepted = record {
   judged-right = judged-right s;
   priced-right = priced-right s;
   demand3 = record { bounded = claim s accepted; tight = tight-list s accepted };
+  repeatable = repeatable s;
   engine-is-rival = λ a p rs. runs-rival s accepted (a .requests) rs;
 }

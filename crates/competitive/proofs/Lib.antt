@@ -8,7 +8,9 @@ pub mod Half
 pub mod Values
 pub mod Lawful
 pub mod Claim
+pub mod Whole
 pub mod Tight
+pub mod Generator
 pub mod Shown
 pub mod Priced
 pub mod LastValues

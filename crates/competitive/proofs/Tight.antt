@@ -28,7 +28,7 @@ use Rattle.protocol_types.specs.declared.Variable.{Variable}
 use Rattle.protocol_types.specs.declared.Block.{Block}
 use Rattle.protocol_types.specs.declared.Request.{Request}
 use Rattle.protocol_types.specs.declared.Operation.the-variants.{Read, Write}
-use Rattle.protocol_types.specs.declared.Account.{Account}
+use Rattle.protocol_types.specs.declared.RunAnswer.{RunAnswer}
 use Rattle.protocol_types.specs.declared.Entry.{Entry}
 use Rattle.protocol_types.specs.declared.Entry.the-variants.{Fetch, Drop, Complete}
 use Rattle.protocol_types.proofs.Laws.{Same, same, apart, same?, Under, under, over, under?, choice, other-found, at-set-same, at-set-other, at-set-zero, at-zeros}
@@ -40,7 +40,7 @@ use Rattle.protocol.proofs.Accounts.{is-possible}
 use Rattle.protocol.proofs.Engines.{Left, run-left}
 use Rattle.competitive.proofs.Fresh.{sound-fresh}
 use Rattle.competitive.proofs.Bound.{keepsAt-true, true-keepsAt}
-use Rattle.competitive.proofs.Lawful.{fresh-possible, lawful}
+use Rattle.competitive.proofs.Whole.{answers-whole, leaves-whole}
 
 -- ---- the lists
 
@@ -458,26 +458,7 @@ module _ (s : Setup) (ok : Fits s) (two : 2 ≤ s .processors) where
       (plays-fetch s ok (lone (a .0)) 1 (readBy 1 ∷ rounds f k) (Complete ∷ scheduleRounds f k) (f * k) two (at-only-1 s ok two 1)
       (rw (b .1) (plays-read s ok (doubled 1 (b .0)) 1 (rounds f k) (scheduleRounds f k) (f * k) two (keeps-1 (b .0)) (plays-rounds k (b .0) (b .2))))))))
 
--- ---- one run takes the whole list
-
-valid-refusal : (s : Setup) (n : ℕ) (q : Request) → Valid s q → n < requestLimit → requestRefusal s n q ≡ 0
-unfolding requestRefusal
-valid-refusal s n q v l =
-    rw (lt-ltb (q .processor) (s .processors) (v .processor), lt-ltb n requestLimit l) (named-passes s (q .operation) noRefusal (v .operation))
-
--- nothing is refused
-pub runFrom-whole : (s : Setup) (t : Tables) (a : Account) (qs : List Request) (vs : List ℕ) → AllValid s qs → a .requests + length qs ≤ requestLimit
-    → runFrom (engine s) t a qs vs .answer .refusal ≡ noRefusal
-runFrom-whole s t a [] vs v l = refl
-runFrom-whole s t a (q ∷ qs) vs v l =
-    let h : a .requests < requestLimit = omega arith in
-    rw (valid-refusal s (a .requests) q (v .0) h) (runFrom-whole s (served s t q) (entered a 1 (bill s t q)) qs (tail vs) (v .1) (omega arith))
-
-pub taken-whole : (s : Setup) (n : ℕ) (qs : List Request) → AllValid s qs → n + length qs ≤ requestLimit → takenFrom (engine s) n qs ≡ qs
-taken-whole s n [] v l = refl
-taken-whole s n (q ∷ qs) v l =
-    let h : n < requestLimit = omega arith in
-    rw (valid-refusal s n q (v .0) h) (ap (λ z. q ∷ z) (taken-whole s (n + 1) qs (v .1) (omega arith)))
+-- ---- the requests are valid, and how many they are
 
 module _ (s : Setup) (ok : Fits s) (two : 2 ≤ s .processors) where
   valid-read : (i : ℕ) → i < s .processors → Valid s (readBy i)
@@ -516,33 +497,20 @@ module _ (s : Setup) (accepted : setupRefusal s ≡ noRefusal) (enough : 2 ≤ s
   ok : Fits s
   ok = setup-fits s accepted
 
-  run-whole : (vs : List ℕ) → length vs ≡ length (tight s k) → run (engine s) (fresh s) freshAccount (tight s k) vs .answer .refusal ≡ noRefusal
-  unfolding run runRefusal
-  run-whole vs e =
-      rw (
-        accepted,
-        sized-passes s (fresh s) (sound-fresh s .lengths),
-        sound-passes s ok (fresh s) (sound-fresh s),
-        is-possible s freshAccount (fresh-possible s),
-        eq-eqb (length vs) (length (tight s k)) e,
-      )
-      (runFrom-whole s (fresh s) freshAccount (tight s k) vs (valid-tight s ok enough k) (omega (arith, length-tight s k)))
+  valid : AllValid s (tight s k)
+  valid = valid-tight s ok enough k
 
-  takes : (vs : List ℕ) → length vs ≡ length (tight s k) → takenRun (engine s) 0 (record { requests = tight s k; values = vs }) ≡ tight s k
-  unfolding takenRun
-  takes vs e = rw (eq-eqb (length vs) (length (tight s k)) e) (taken-whole s 0 (tight s k) (valid-tight s ok enough k) (omega (arith, length-tight s k)))
-
-  leaves : (vs : List ℕ) → length vs ≡ length (tight s k) → Left (engine s) (fresh s) freshAccount (tight s k) (run (engine s) (fresh s) freshAccount (tight s k) vs)
-  leaves vs e = rw (takes vs e) at (run-left s (engine s) (Sound s) (Valid s) (lawful s accepted) (fresh s) freshAccount (record { requests = tight s k; values = vs }) (sound-fresh s) (fresh-possible s))
+  few-tight : length (tight s k) ≤ requestLimit
+  few-tight = omega (arith, length-tight s k)
 
   pub tight-list : TightList s k
   tight-list = record {
     requests = tight s k;
     schedule = tightSchedule s k;
     many = length-tight s k;
-    whole = run-whole;
-    count = λ vs e. leaves vs e .taken;
-    spends = λ vs e. rw (leaves vs e .account) (omega (arith, tight-spent s ok enough k));
+    whole = λ vs e. ap (λ (r : RunAnswer). r .refusal) (answers-whole s accepted (tight s k) valid few-tight vs e);
+    count = λ vs e. ap (λ (r : RunAnswer). r .taken) (answers-whole s accepted (tight s k) valid few-tight vs e);
+    spends = λ vs e. rw (leaves-whole s accepted (tight s k) valid few-tight vs e .account) (omega (arith, tight-spent s ok enough k));
     legal = tight-plays s ok enough k .legal;
     pays = tight-plays s ok enough k .costs;
   }

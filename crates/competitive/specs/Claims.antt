@@ -4,19 +4,20 @@ use mathlib.Core.Path.{_≡_}
 use mathlib.Core.Logic.{_≢_}
 use mathlib.Core.Bool.{true, false, _&&_, cond}
 use mathlib.Core.List.{List, [], _∷_}
-use lib.ListN.{length}
+use lib.ListN.{length, take}
 use lib.Dec.{eqb}
 use Rattle.protocol_types.specs.Lists.{at}
 use Rattle.protocol_types.specs.Refusals.{noRefusal}
-use Rattle.protocol_types.specs.Board.{setupRefusal, fetchPrice}
+use Rattle.protocol_types.specs.Board.{setupRefusal, fetchPrice, variables}
 use Rattle.protocol.specs.Tables.{Tables, sized, fresh}
 use Rattle.protocol.specs.Soundness.{sound}
 use Rattle.protocol_types.specs.Conditions.{requestLimit}
 use Rattle.protocol.specs.Accounts.{cycles, freshAccount, cyclesOf, possible}
-use Rattle.protocol.specs.Engines.{run, Run, State, outcomes, runs, takenAll, spent, expectedAll, valuesOf, Never20Or21}
+use Rattle.protocol.specs.Engines.{answered, run, Run, State, outcomes, runs, takenAll, spent, expectedAll, valuesOf, Never20Or21}
 use Rattle.protocol.specs.Runs.{engine, opening}
 use Rattle.protocol.specs.Rival.{Rival, noCopies, Legal, costs, lastCopies}
 use Rattle.protocol.specs.Pricer.{accepted, verdict, priceRefusal, price, priceTables}
+use Rattle.protocol.specs.Generator.{generateRefusal, generate}
 use Rattle.competitive.specs.EngineSchedule.{EngineIsRival}
 use Rattle.protocol_types.specs.declared.Setup.{Setup}
 use Rattle.protocol_types.specs.declared.Variable.{Variable}
@@ -107,6 +108,20 @@ pub record JudgedRight (s : Setup) (qs : List Request) (es : List Entry) : Type 
   pub accepts : Legal s (noCopies s) qs es → verdict s qs es ≡ accepted (lastCopies s (noCopies s) qs es) (costs s (noCopies s) qs es)
   pub only : (r : Rival) (c : Bill) → verdict s qs es ≡ accepted r c → Legal s (noCopies s) qs es
 
+-- ---- a load that two labs can repeat (document 02, P2)
+
+-- a lent list that 1, 10, 11 and 5 let through, as the generator leaves it
+pub record Repeatable (s : Setup) (seed : ℕ) (lent : List Request) : Type 0 where
+  -- "A generated list must be one that fresh tables and a fresh account take to the end."
+  pub taken : (vs : List ℕ) → length vs ≡ length lent
+      → run (engine s) (fresh s) freshAccount (generate s seed lent) vs .answer ≡ answered (length lent) noRefusal 0
+  -- it depends on N, on M × p, on the seed and on the count alone: not on lines and prices, nor on what the list held
+  pub alike : (t : Setup) (other : List Request) → generateRefusal t seed (length other) ≡ noRefusal
+      → t .processors ≡ s .processors → variables t ≡ variables s → length other ≡ length lent → generate t seed other ≡ generate s seed lent
+  -- a longer list begins with it
+  pub begins : (longer : List Request) → generateRefusal s seed (length longer) ≡ noRefusal → length lent ≤ length longer
+      → take (length lent) (generate s seed longer) ≡ generate s seed lent
+
 -- ---- runs that 1, 10, 2, 20 or 21 refuses at once add nothing, so that 'any list of runs' has no gap: of every setup and every state
 
 pub record RefusedAtOnce (s : Setup) : Type 0 where
@@ -120,5 +135,6 @@ pub record Demands (s : Setup) : Type 0 where
   pub judged-right : (qs : List Request) (es : List Entry) → JudgedRight s qs es
   pub priced-right : (lent : Rival) (qs : List Request) (es : List Entry) → priceRefusal s lent (length es) (length qs) ≡ noRefusal → PricedRight s lent qs es
   pub demand3 : Demand3 s
+  pub repeatable : (seed : ℕ) (lent : List Request) → generateRefusal s seed (length lent) ≡ noRefusal → Repeatable s seed lent
   -- the engine's own actions are a legal schedule for the requests that a list of runs takes
   pub engine-is-rival : (a : Account) → possible s a ≡ true → (rs : List (Run Request)) → EngineIsRival s (takenAll (engine s) (a .requests) rs)

@@ -8,4 +8,5 @@ pub mod Engines
 pub mod Runs
 pub mod Rival
 pub mod Pricer
+pub mod Generator
 pub mod Sessions

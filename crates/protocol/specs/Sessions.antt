@@ -13,8 +13,10 @@ use Rattle.protocol.specs.Engines.{answered, Outcome, run}
 use Rattle.protocol.specs.Runs.{startRefusal, started, looked, engine}
 use Rattle.protocol.specs.Rival.{Rival, rival}
 use Rattle.protocol.specs.Pricer.{priceRefusal, price, priceTables, PriceNumbers, numbered, inNumbers}
+use Rattle.protocol.specs.Generator.{draws, generateRefusal, generate}
 use Rattle.protocol_types.specs.declared.Setup.{Setup}
 use Rattle.protocol_types.specs.declared.Request.{Request}
+use Rattle.protocol_types.specs.declared.Operation.{Operation}
 use Rattle.protocol_types.specs.declared.Operation.the-variants.{Read, Write}
 use Rattle.protocol_types.specs.declared.Bill.{Bill}
 use Rattle.protocol_types.specs.declared.Account.{Account}
@@ -57,6 +59,10 @@ read i v = record { processor = i; operation = Read (record { 0 = v }) }
 
 abbrev pub write : ℕ → ℕ → ℕ → Request
 write i v x = record { processor = i; operation = Write (record { 0 = v }) x }
+
+-- what stands in a list that is lent to the generator
+abbrev pub unwritten : Request
+unwritten = write 7 7 7
 
 abbrev pub fetchEntry : ℕ → ℕ → Entry
 fetchEntry i b = Fetch i (record { 0 = b })
@@ -136,6 +142,18 @@ sameRival r q = sameList (r .blocks) (q .blocks) && sameList (r .held) (q .held)
 abbrev pub sameNumbers : PriceNumbers → PriceNumbers → Bool
 sameNumbers a c = eqb (a .number) (c .number) && eqb (a .place) (c .place) && eqb (a .cost) (c .cost)
 
+abbrev pub sameOperation : Operation → Operation → Bool
+sameOperation (Read v) (Read w) = eqb (v .0) (w .0)
+sameOperation (Read v) (Write w y) = false
+sameOperation (Write v x) (Read w) = false
+sameOperation (Write v x) (Write w y) = eqb (v .0) (w .0) && eqb x y
+
+abbrev pub sameRequests : List Request → List Request → Bool
+sameRequests [] [] = true
+sameRequests [] (q ∷ qs) = false
+sameRequests (p ∷ ps) [] = false
+sameRequests (p ∷ ps) (q ∷ qs) = eqb (p .processor) (q .processor) && sameOperation (p .operation) (q .operation) && sameRequests ps qs
+
 -- ---- the kinds of rows
 
 -- a run after other requests
@@ -190,6 +208,14 @@ pub data Row : Type 0 where
   quote : Quote → Row
   -- what the pricer checks before the first entry: block numbers, held marks and dirty marks of these lengths, n entries, m requests, and the refusal
   checked : Setup → ℕ → ℕ → ℕ → ℕ → ℕ → ℕ → Row
+  -- a seed and its first draws
+  drawn : ℕ → List ℕ → Row
+  -- what the generator answers to a setup and a seed, and what it leaves in a list of as many `unwritten` requests
+  generator : Setup → ℕ → ℕ → List Request → Row
+  -- what it checks: a setup, a seed, a list of n requests, and the refusal
+  generatorChecked : Setup → ℕ → ℕ → ℕ → Row
+  -- the n requests of a seed, which a run from fresh tables and a fresh account takes to the end
+  taken : Setup → ℕ → ℕ → Row
 
 -- a schedule that is refused by n at place k: no cost, and tables of zeros
 abbrev pub refusedAt : Setup → List Request → List Entry → ℕ → ℕ → Row
@@ -255,12 +281,25 @@ checkedPasses s r n m x =
     let q : Rival = priceTables s r [] [] in
     eqb (priceRefusal s r n m) x && cond (eqb n 0 && eqb m 0 && not (eqb x 0)) (sameRival q r) true
 
+abbrev pub generatorPasses : Setup → ℕ → ℕ → List Request → Bool
+generatorPasses s seed x qs =
+    eqb (generateRefusal s seed (length qs)) x && sameRequests (generate s seed (replicate (length qs) unwritten)) qs
+
+abbrev pub takenPasses : Setup → ℕ → ℕ → Bool
+takenPasses s seed n =
+    let o : Outcome Tables = run (engine s) (fresh s) freshAccount (generate s seed (replicate n unwritten)) (replicate n 9) in
+    eqb (generateRefusal s seed n) 0 && sameAnswer (o .answer) (answered n 0 0)
+
 abbrev pub passes : Row → Bool
 passes (session w) = sessionPasses w
 passes (tabled s t n) = tabledPasses s t n
 passes (lent w) = lentPasses w
 passes (quote w) = quotePasses w
 passes (checked s b h k n m x) = checkedPasses s (rival (replicate b 7) (replicate h 7) (replicate k 7)) n m x
+passes (drawn seed ds) = sameList (draws seed (length ds)) ds
+passes (generator s seed x qs) = generatorPasses s seed x qs
+passes (generatorChecked s seed n x) = eqb (generateRefusal s seed n) x
+passes (taken s seed n) = takenPasses s seed n
 
 abbrev pub everyRow : List Row → Bool
 everyRow [] = true
@@ -2098,4 +2137,51 @@ rows =
     ∷ checked (pricedBoard 9 2 2 5 33 1) 18 18 18 0 0 1
     ∷ checked (pricedBoard 2 2 2 5 5 6) 4 3 4 0 0 10
     ∷ checked (pricedBoard 2 2 2 5 33 1) 4 4 4 4000001 0 10
+    -- ---- document 02, P2
+    -- Marsaglia's seed, which is no draw
+    ∷ drawn 2463534242 (723471715 ∷ 2497366906 ∷ 2064144800 ∷ 2008045182 ∷ 3532304609 ∷ 374114282 ∷ 1350636274 ∷ 691148861 ∷ 746858951 ∷ 2653896249 ∷ 1156348781 ∷ 3149294349 ∷ 2888432806 ∷ 3826506360 ∷ 1959669526 ∷ 2495235968 ∷ 1427053829 ∷ 1666395154 ∷ [])
+    -- the least seed
+    ∷ drawn 1 (270369 ∷ 67634689 ∷ 2647435461 ∷ 307599695 ∷ 2398689233 ∷ 745495504 ∷ [])
+    -- the greatest
+    ∷ drawn 4294967295 (253983 ∷ 4228382207 ∷ 1958451267 ∷ 4056713434 ∷ 2049502865 ∷ 2560970988 ∷ [])
+    -- the top bit alone: every shift left loses it
+    ∷ drawn 2147483648 (2148024320 ∷ 2299036804 ∷ 2861646152 ∷ [])
+    -- three draws a request: processor, variable, and a read if even, else a write of the third
+    ∷ generator usual 2463534242 0 (read 3 122 ∷ read 2 225 ∷ write 2 61 746858951 ∷ write 1 109 3149294349 ∷ read 2 120 ∷ read 0 5 ∷ [])
+    -- a longer list begins with the shorter one
+    ∷ generator usual 2463534242 0 (read 3 122 ∷ read 2 225 ∷ write 2 61 746858951 ∷ write 1 109 3149294349 ∷ read 2 120 ∷ read 0 5 ∷ read 2 167 ∷ read 2 159 ∷ [])
+    -- other lines and prices, M and p with the same product: the same list
+    ∷ generator (pricedBoard 4 1 16 16 32 1) 2463534242 0 (read 3 122 ∷ read 2 225 ∷ write 2 61 746858951 ∷ write 1 109 3149294349 ∷ read 2 120 ∷ read 0 5 ∷ [])
+    -- N 8, M × p 4096
+    ∷ generator (board 8 64 16 256) 1 0 (write 1 1537 2647435461 ∷ read 7 2001 ∷ write 2 3250 2005365029 ∷ write 4 715 1495045943 ∷ [])
+    -- N 1, M × p 1
+    ∷ generator (board 1 1 1 1) 4294967295 0 (write 0 0 1958451267 ∷ read 0 0 ∷ read 0 0 ∷ read 0 0 ∷ [])
+    -- N 3, M × p 15
+    ∷ generator (pricedBoard 3 2 3 5 5 4) 2147483648 0 (read 2 4 ∷ read 1 10 ∷ write 1 12 1840891463 ∷ write 2 7 2262211835 ∷ [])
+    -- an empty list
+    ∷ generator usual 2463534242 0 []
+    -- 11: seed zero; the list is untouched
+    ∷ generator usual 0 11 (unwritten ∷ unwritten ∷ [])
+    -- 11 on an empty list
+    ∷ generator usual 0 11 []
+    -- 1; the list is untouched
+    ∷ generator (board 9 8 4 64) 7 1 (unwritten ∷ unwritten ∷ [])
+    -- 10; the list is untouched
+    ∷ generator (pricedBoard 4 8 4 64 33 4) 7 10 (unwritten ∷ unwritten ∷ [])
+    -- 1 before 11
+    ∷ generator (board 4 8 4 257) 0 1 (unwritten ∷ unwritten ∷ [])
+    -- 10 before 11
+    ∷ generator (pricedBoard 4 8 4 64 4 5) 0 10 (unwritten ∷ unwritten ∷ [])
+    -- 5: the last length let through, and the first refused
+    ∷ generatorChecked usual 1 1000000 0
+    ∷ generatorChecked usual 1 1000001 5
+    ∷ generatorChecked usual 4294967295 1000000 0
+    -- 1, 10 and 11 before 5
+    ∷ generatorChecked (board 4 0 4 64) 1 1000001 1
+    ∷ generatorChecked (pricedBoard 4 8 4 64 4 0) 1 1000001 10
+    ∷ generatorChecked usual 0 1000001 11
+    -- fresh tables and a fresh account take a generated list to the end
+    ∷ taken usual 2463534242 8
+    ∷ taken (pricedBoard 3 2 3 5 5 4) 2147483648 12
+    ∷ taken (board 1 1 1 1) 4294967295 4
     ∷ []

@@ -35,7 +35,7 @@ noSuchProcessor = 3
 abbrev pub noSuchVariable : ℕ
 noSuchVariable = 4
 
--- 5: to the pricer: over 1,000,000 requests or 4,000,000 entries
+-- 5: to the pricer: over 1,000,000 requests or 4,000,000 entries; to the generator: a list over 1,000,000 (document 02, P2)
 abbrev pub tooMany : ℕ
 tooMany = 5
 
@@ -58,6 +58,10 @@ readByBroadcast = 9
 -- 10: fetch price or write-back price out of range (document 02, P1)
 abbrev pub priceOutOfRange : ℕ
 priceOutOfRange = 10
+
+-- 11: seed zero (document 02, P2)
+abbrev pub seedZero : ℕ
+seedZero = 11
 
 -- 20: tables not sound
 abbrev pub unsoundTables : ℕ

@@ -27,6 +27,8 @@ pub const READ_BY_BROADCAST: u32 = 9;
 
 pub const PRICE_OUT_OF_RANGE: u32 = 10;
 
+pub const SEED_ZERO: u32 = 11;
+
 pub const UNSOUND_TABLES: u32 = 20;
 
 pub const IMPOSSIBLE_ACCOUNT: u32 = 21;
@@ -45,7 +47,7 @@ pub const COMPLETION_NOT_HELD: u32 = 27;
 
 pub const REQUESTS_LEFT: u32 = 28;
 
-// The requests that an account takes, and the pricer.
+// The requests that an account takes, the pricer and the generator.
 pub const REQUEST_LIMIT: u32 = 1000000;
 
 // The highest price.
