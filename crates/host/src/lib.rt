@@ -12,11 +12,12 @@ ghost use Rattle.rival_copies.specs.Copies.{rivalBefore, rivalAfter};
 ghost use Rattle.run_progress.specs.Progress.{outcome};
 ghost use Rattle.trace_lines.specs.Trace.{endedOn};
 ghost use Rattle.host_looks.specs.Looks.{lookLength, lookOffset};
+ghost use Rattle.host_generator.specs.Numbers.{generateNumbersRefusal, generateNumbers};
 ghost use Rattle.host_numbers.specs.Numbers.{runNumbers, priceInNumbers, priceTablesOfNumbers};
 ghost use Rattle.host.specs.Host.{hostVersion, setupOf, accountBefore, accountAfter, blockNumbered, reportOf};
 
 // It counts the changes of these functions' signatures and meanings.
-const VERSION: u32 = 2;
+const VERSION: u32 = 3;
 
 // The version of these functions, by which a host can tell whether it was built for them.
 #[no_mangle]
@@ -263,6 +264,32 @@ pub extern "C" fn cuzkelor_price(
     *place = place_of(answer);
     *cost = cost_of(answer);
     number_of(answer)
+}
+
+// The requests of a seed, four numbers each, as many as the list has room for. The refusal number, or 0.
+#[no_mangle]
+pub extern "C" fn cuzkelor_generate(
+    processors: u32,
+    lines: u32,
+    block_words: u32,
+    block_count: u32,
+    fetch_price: u32,
+    write_back_price: u32,
+    seed: u32,
+    requests: &mut [u32],
+) -> u32
+    ensures { λ r. ⌜ (r ≡ generateNumbersRefusal (setupOf processors lines «block_words» «block_count» «fetch_price» «write_back_price») seed (now (requests .entry)))
+        × (now (requests .exit) ≡ generateNumbers (setupOf processors lines «block_words» «block_count» «fetch_price» «write_back_price») seed (now (requests .entry))) ⌝ }
+{
+    let setup = setup_of(
+        processors,
+        lines,
+        block_words,
+        block_count,
+        fetch_price,
+        write_back_price,
+    );
+    host_generator::generate(setup, seed, requests)
 }
 
 // A whole trace on tables that are started here. The refusal number, or 0.

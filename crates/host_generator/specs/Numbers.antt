@@ -1,0 +1,19 @@
+-- The generator where requests are numbers, for hosts that know no other types. That a run takes what the numbers then name is proved in proofs/Taken.antt.
+use Prim.Native.Nat.{ℕ}
+use mathlib.Core.Bool.{cond}
+use mathlib.Core.List.{List}
+use lib.ListN.{length}
+use lib.Dec.{eqb}
+use Rattle.protocol_types.specs.Refusals.{noRefusal}
+use Rattle.protocol.specs.Generator.{generateRefusal, generate}
+use Rattle.protocol_types.specs.declared.Setup.{Setup}
+use Rattle.host_decoding.specs.Records.{requestWidth, whole, partialRefusal, requestsOf}
+use Rattle.host_encoding.specs.Numbers.{numbersOf}
+
+-- a list that is not whole is refused by 1, 10 or 2: "11 … after 2"
+unfoldable pub generateNumbersRefusal : Setup → ℕ → List ℕ → ℕ
+generateNumbersRefusal s seed ns = cond (whole requestWidth ns) (generateRefusal s seed (length (requestsOf ns))) (partialRefusal s)
+
+-- the lent numbers after it: those of as many requests, or untouched by a refusal
+unfoldable pub generateNumbers : Setup → ℕ → List ℕ → List ℕ
+generateNumbers s seed ns = cond (eqb (generateNumbersRefusal s seed ns) noRefusal) (numbersOf (generate s seed (requestsOf ns))) ns
