@@ -9,6 +9,9 @@ ghost use Rattle.protocol_types.specs.Board.{Fits};
 ghost use Rattle.protocol.specs.Generator.{xorshift, requestDrawn, generateRefusal};
 ghost use Rattle.generator_steps.specs.Generation.{refused, drawing, begun, turned};
 
+// The longest list.
+const LIST_LIMIT: usize = protocol_types::REQUEST_LIMIT as usize;
+
 // A list being generated: whether it goes on, the place of the next request, the last draw that this request used, the request, and the refusal number or 0.
 pub struct Generation {
     pub going: bool,
@@ -57,7 +60,7 @@ fn generate_refusal(setup: Setup, seed: u32, count: usize) -> u32
     if seed == 0 {
         return protocol_types::SEED_ZERO;
     }
-    if count > protocol_types::REQUEST_LIMIT as usize {
+    if count > LIST_LIMIT {
         return protocol_types::TOO_MANY;
     }
     protocol_types::NO_REFUSAL

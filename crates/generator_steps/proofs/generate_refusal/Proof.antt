@@ -45,4 +45,4 @@ returns-4 c =
     )
 
 pub generate-refusal-spec : {M : Type 1} → statement M
-generate-refusal-spec = tie.close (tie.spec (λ c κs. search needs) returns returns-2 (λ c. search needs) returns-3 returns-4)
+generate-refusal-spec = tie.close (tie.spec (λ c κs. search needs) returns returns-2 returns-3 returns-4)
