@@ -18,11 +18,10 @@ use Rattle.protocol_types.specs.Lists.{Each}
 use Rattle.protocol_types.specs.Refusals.{noRefusal, tooMany, seedZero}
 use Rattle.protocol_types.specs.Board.{setupRefusal, Fits, variables}
 use Rattle.protocol_types.specs.Conditions.{Named, Valid, AllValid}
-use Rattle.protocol.specs.Generator.{shiftLeft, xorLeft, xorRight, xorshift, draws, requestDrawn, generated, thirdDraw, requestAfter, generateLimit, generateRefusal}
+use Rattle.protocol.specs.Generator.{shiftLeft, xorLeft, xorRight, xorshift, draws, even, requestDrawn, generated, thirdDraw, requestAfter, generateLimit, generateRefusal}
 use Rattle.protocol_types.specs.declared.Setup.{Setup}
 use Rattle.protocol_types.specs.declared.Request.{Request}
-use Rattle.protocol_types.specs.declared.Operation.{Operation}
-use Rattle.protocol_types.proofs.Laws.{choice, chosen-zero}
+use Rattle.protocol_types.proofs.Laws.{choice}
 
 -- ---- a draw has 32 bits
 
@@ -170,7 +169,7 @@ valid-after : (s : Setup) → Fits s → (x : ℕ) → Valid s (requestAfter s x
 unfolding requestAfter requestDrawn
 valid-after s ok x = record {
   processor = mod-lt _ (ok .some-processor);
-  operation = choice (Named s) (eqb (thirdDraw x % 2) 0) (λ e. mod-lt _ (some-variable s ok)) (λ e. mod-lt _ (some-variable s ok));
+  operation = choice (Named s) (even (thirdDraw x)) (λ e. mod-lt _ (some-variable s ok)) (λ e. mod-lt _ (some-variable s ok));
 }
 
 pub generated-valid : (s : Setup) → Fits s → (seed n : ℕ) → AllValid s (generated s seed n)

@@ -1,6 +1,6 @@
 -- A load that two labs can repeat: the requests that a seed gives (document 02, P2).
 use Prim.Native.Nat.{ℕ, zero, suc, _*_, _/_, _%_, _^_}
-use mathlib.Core.Bool.{not, cond}
+use mathlib.Core.Bool.{Bool, not, cond}
 use mathlib.Core.List.{List, [], _∷_}
 use lib.ListN.{length}
 use lib.Dec.{leb, eqb}
@@ -41,11 +41,14 @@ draws seed (suc n) = xorshift seed ∷ draws (xorshift seed) n
 
 -- ---- "Each request uses three successive draws"
 
+abbrev pub even : ℕ → Bool
+even x = eqb (x % 2) 0
+
 -- "the first mod N is the processor, the second mod M × p the variable, and the third is a read if even, else a write of that draw"
 unfoldable pub requestDrawn : Setup → ℕ → ℕ → ℕ → Request
 requestDrawn s first second third =
     let v : Variable = record { 0 = second % variables s } in
-    record { processor = first % s .processors; operation = cond (eqb (third % 2) 0) (Read v) (Write v third) }
+    record { processor = first % s .processors; operation = cond (even third) (Read v) (Write v third) }
 
 -- three at a time
 abbrev pub requestsDrawn : Setup → List ℕ → List Request
