@@ -112,6 +112,14 @@ record Told (d : Generation) (w : Val) : Type 0 where
 told : (d : Generation) (w : Val) → Is Generation-t.the-row d (w ∷ []) → Told d w
 told d w is = let e = LL.tells Generation-t.the-type Generation-l.the-laws d (w ∷ []) is in record { value = ap only e; is = subst (Is Generation-t.the-row d) e is }
 
+-- a call that returns some r, of which it says S r: if that is to be d, then the value is d's
+told-by : {M : Type 1} (𝓤 : URA M) (H : Heap 𝓤) (A : Atoms 𝓤) (W : Given 𝓤 H A) (S : Generation → SProp 𝓤) (d : Generation) → ((r : Generation) → ent 𝓤 (S r) (fact 𝓤 (r ≡ d))) → (w : Val)
+    → ent 𝓤 (mean 𝓤 H A (later (some (λ (r : Generation). (‵ ftrue ⊛ ‵ (Generation-t.the-row .own r (w ∷ []))) ⊛ raw (S r))))) (H .⇛ (guard 𝓤 (Told d w) (sem 𝓤 H A ftrue)))
+told-by 𝓤 H A W S d said w =
+    qed W (later (some (λ (r : Generation). (‵ ftrue ⊛ ‵ (Generation-t.the-row .own r (w ∷ []))) ⊛ raw (S r))) ∷ []) ∵ updating ! $ await ! tt $ pick ! (λ r.
+    split ! $ move ! (1 ∷ []) $ use1 W (raw (fact 𝓤 (r ≡ d))) (said r) $ heard ! (r ≡ d) (λ e. split ! $ rewrite ! 1 (λ (g : Generation). ‵ (Generation-t.the-row .own g (w ∷ []))) e refl $ move ! (1 ∷ []) $
+    facts ! Generation-t.the-row (Is Generation-t.the-row) (shows 𝓤 H A Generation-t.the-row) d (w ∷ []) (λ is. at-once ! $ check ! (told d w is) $ done !)))
+
 module _ {M : Type 1} (𝓤 : URA M) (H : Heap 𝓤) (A : Atoms 𝓤) (W : Given 𝓤 H A) (mem : Memory → SProp 𝓤) (run : Routine → Fun 𝓤) where
   abbrev Begin : Contract 𝓤
   Begin = tripleOf 𝓤 H A begin-fn.signature (begin-fn.spec 𝓤 H A mem run)
@@ -126,14 +134,10 @@ module _ {M : Type 1} (𝓤 : URA M) (H : Heap 𝓤) (A : Atoms 𝓤) (W : Given
     begin-before : ent 𝓤 (emp 𝓤) (Begin .pre to-begin)
     begin-before = qed W [] ∵ nothing ! $ owned ! usize (Is usize) (uint-makes 𝓤 H A W w64) n _ (refl, n-fits) $ fjoin ! $ owned ! u32 (Is u32) (uint-makes 𝓤 H A W w32) s _ (refl, s-fits) $ fjoin ! $ owned ! Setup-t.the-row (Is Setup-t.the-row) (LL.makes Setup-t.the-type Setup-l.the-plain 𝓤 H A) setup _ setup-is $ fjoin ! $ nothing ! $ join ! $ frame ! $ nothing ! $ done !
 
-    begin-said : (r : Generation) → ent 𝓤 (ensured 𝓤 H A begin-fn.ended (begin-fn.clauses 𝓤 H A mem run) tt (setup, (s, (n, tt))) tt r) (fact 𝓤 (r ≡ begun setup s n))
-    begin-said r = exE 𝓤 _ (λ ws. snd∗ 𝓤 (sem 𝓤 H A (lasts begin-fn.ended tt (setup, (s, (n, tt))) ws)) (fact 𝓤 (r ≡ begun setup s n)))
-
     begin-after : (w : Val) → ent 𝓤 (Begin .post to-begin w) (H .⇛ (guard 𝓤 (Told (begun setup s n) w) (sem 𝓤 H A ftrue)))
-    begin-after w =
-        qed W (raw (Begin .post to-begin w) ∷ []) ∵ updating ! $ use1 W (later (some (λ (r : Generation). (‵ ftrue ⊛ ‵ (Generation-t.the-row .own r (w ∷ []))) ⊛ raw (ensured 𝓤 H A begin-fn.ended (begin-fn.clauses 𝓤 H A mem run) tt (setup, (s, (n, tt))) tt r)))) (id⊢ 𝓤 _) $ await ! tt $ pick ! (λ r.
-        split ! $ move ! (1 ∷ []) $ use1 W (raw (fact 𝓤 (r ≡ begun setup s n))) (begin-said r) $ heard ! (r ≡ begun setup s n) (λ e. split ! $ rewrite ! 1 (λ (d : Generation). ‵ (Generation-t.the-row .own d (w ∷ []))) e refl $ move ! (1 ∷ []) $
-        facts ! Generation-t.the-row (Is Generation-t.the-row) (shows 𝓤 H A Generation-t.the-row) (begun setup s n) (w ∷ []) (λ is. at-once ! $ check ! (told (begun setup s n) w is) $ done !)))
+    begin-after =
+        told-by 𝓤 H A W (ensured 𝓤 H A begin-fn.ended (begin-fn.clauses 𝓤 H A mem run) tt (setup, (s, (n, tt))) tt) (begun setup s n)
+        (λ r. exE 𝓤 _ (λ ws. snd∗ 𝓤 (sem 𝓤 H A (lasts begin-fn.ended tt (setup, (s, (n, tt))) ws)) (fact 𝓤 (r ≡ begun setup s n))))
 
   module _ (setup : Setup) (d : Generation) (n : ℕ) (setup-is : Is Setup-t.the-row setup (setup-vals setup)) (d-is : Is Generation-t.the-row d (val d ∷ [])) (n-fits : n < 2 ^ 64) (ready : Fits setup × (d .at < n)) where
     abbrev to-turn : Turn .Ghost
@@ -142,14 +146,10 @@ module _ {M : Type 1} (𝓤 : URA M) (H : Heap 𝓤) (A : Atoms 𝓤) (W : Given
     turn-before : ent 𝓤 (emp 𝓤) (Turn .pre to-turn)
     turn-before = qed W [] ∵ says ! ready $ nothing ! $ frame ! $ nothing ! $ owned ! usize (Is usize) (uint-makes 𝓤 H A W w64) n _ (refl, n-fits) $ fjoin ! $ owned ! Generation-t.the-row (Is Generation-t.the-row) (LL.makes Generation-t.the-type Generation-l.the-plain 𝓤 H A) d _ d-is $ fjoin ! $ owned ! Setup-t.the-row (Is Setup-t.the-row) (LL.makes Setup-t.the-type Setup-l.the-plain 𝓤 H A) setup _ setup-is $ fjoin ! $ done !
 
-    turn-said : (r : Generation) → ent 𝓤 (ensured 𝓤 H A turn-fn.ended (turn-fn.clauses 𝓤 H A mem run) tt (setup, (d, (n, tt))) tt r) (fact 𝓤 (r ≡ turned setup n d))
-    turn-said r = exE 𝓤 _ (λ ws. snd∗ 𝓤 (sem 𝓤 H A (lasts turn-fn.ended tt (setup, (d, (n, tt))) ws)) (fact 𝓤 (r ≡ turned setup n d)))
-
     turn-after : (w : Val) → ent 𝓤 (Turn .post to-turn w) (H .⇛ (guard 𝓤 (Told (turned setup n d) w) (sem 𝓤 H A ftrue)))
-    turn-after w =
-        qed W (raw (Turn .post to-turn w) ∷ []) ∵ updating ! $ use1 W (later (some (λ (r : Generation). (‵ ftrue ⊛ ‵ (Generation-t.the-row .own r (w ∷ []))) ⊛ raw (ensured 𝓤 H A turn-fn.ended (turn-fn.clauses 𝓤 H A mem run) tt (setup, (d, (n, tt))) tt r)))) (id⊢ 𝓤 _) $ await ! tt $ pick ! (λ r.
-        split ! $ move ! (1 ∷ []) $ use1 W (raw (fact 𝓤 (r ≡ turned setup n d))) (turn-said r) $ heard ! (r ≡ turned setup n d) (λ e. split ! $ rewrite ! 1 (λ (g : Generation). ‵ (Generation-t.the-row .own g (w ∷ []))) e refl $ move ! (1 ∷ []) $
-        facts ! Generation-t.the-row (Is Generation-t.the-row) (shows 𝓤 H A Generation-t.the-row) (turned setup n d) (w ∷ []) (λ is. at-once ! $ check ! (told (turned setup n d) w is) $ done !)))
+    turn-after =
+        told-by 𝓤 H A W (ensured 𝓤 H A turn-fn.ended (turn-fn.clauses 𝓤 H A mem run) tt (setup, (d, (n, tt))) tt) (turned setup n d)
+        (λ r. exE 𝓤 _ (λ ws. snd∗ 𝓤 (sem 𝓤 H A (lasts turn-fn.ended tt (setup, (d, (n, tt))) ws)) (fact 𝓤 (r ≡ turned setup n d))))
 
 module _ {M : Type 1} (𝓤 : URA M) (H : Heap 𝓤) (A : Atoms 𝓤) (W : Given 𝓤 H A) (mem : Memory → SProp 𝓤) (run : Routine → Fun 𝓤) (κ : Lft) (q : Share) (b o : ℕ) (γ : GName)
     (setup : Setup) (seed : ℕ) (ys : List Request) (setup-is : Is Setup-t.the-row setup (setup-vals setup)) (s-fits : seed < 2 ^ 32) (room : Room Request-t.the-row (length ys)) where
