@@ -103,7 +103,7 @@ pub record PricedRight (s : Setup) (lent : Rival) (qs : List Request) (es : List
   pub truly : (c : ℕ) → price s lent qs es ≡ Accepted c → c ≡ cycles (costs s (noCopies s) qs es)
   pub shown : (c : ℕ) → price s lent qs es ≡ Accepted c → Shown (priceTables s lent qs es)
 
--- "Legality knows no limit of length; 5 is the pricer's alone": the verdict, which the price is made of, of any schedule
+-- "Legality knows no limit of length": 5 is the pricer's and the generator's. The verdict, which the price is made of, of any schedule
 pub record JudgedRight (s : Setup) (qs : List Request) (es : List Entry) : Type 0 where
   pub accepts : Legal s (noCopies s) qs es → verdict s qs es ≡ accepted (lastCopies s (noCopies s) qs es) (costs s (noCopies s) qs es)
   pub only : (r : Rival) (c : Bill) → verdict s qs es ≡ accepted r c → Legal s (noCopies s) qs es
