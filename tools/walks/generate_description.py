@@ -14,10 +14,10 @@ generate = Filling(
     here=HERE, name='generate', kit='walks', steps=STEPS,
     values=[('setup', Kind('Setup', 'protocol_types')), ('seed', Kind('u32'))], element=Kind('Request', 'protocol_types'), size=16,
     carried=Kind('Generation', STEPS), made=('request', 3), answer=('refusal', 4, Kind('u32')), turn_takes=['setup'],
-    begun='begun setup seed {n}', turned='turned setup {n} {d}', asks='Fits setup × ({d} .at < {n})', ready='(inv-fits {inv}, below)',
-    says='(r ≡ generateRefusal setup seed (length ys)) × (l ≡ filled setup seed ys)',
+    begun='generationBegun setup seed {n}', turned='generationTurned setup {n} {d}', asks='Fits setup × ({d} .at < {n})', ready='(inv-fits {inv}, below)',
+    says='(r ≡ generateRefusal setup seed (length ys)) × (l ≡ generated setup seed ys)',
     laws=(HERE, 'Loop', ['Inv', 'inv-start', 'inv-fits', 'inv-within', 'inv-turn', 'inv-falls', 'inv-end']),
-    cites=[('protocol_types', 'Board', ['Fits']), ('protocol', 'Generator', ['generateRefusal', 'generate as filled']), (STEPS, 'Generation', ['begun', 'turned'])])
+    cites=[('protocol_types', 'Board', ['Fits']), ('protocol', 'Generator', ['generateRefusal', 'generated']), (STEPS, 'Generation', ['generationBegun', 'generationTurned'])])
 
 if __name__ == '__main__':
     path = os.path.join(ROOT, 'crates', HERE, 'proofs/generate/Proof.antt')

@@ -10,33 +10,33 @@ use Rattle.protocol.specs.Tables.{fresh}
 use Rattle.protocol.specs.Accounts.{freshAccount}
 use Rattle.protocol.specs.Engines.{answered, run}
 use Rattle.protocol.specs.Runs.{engine}
-use Rattle.protocol.specs.Generator.{generated, generateRefusal, generate}
+use Rattle.protocol.specs.Generator.{workload, generateRefusal, generated}
 use Rattle.competitive.specs.Claims.{Repeatable}
 use Rattle.protocol_types.specs.declared.Setup.{Setup}
 use Rattle.protocol_types.specs.declared.Request.{Request}
 use Rattle.protocol_types.proofs.Board.{setup-fits}
-use Rattle.protocol.proofs.Generator.{length-generated, generated-begins, generated-same, generated-valid, generate-passed}
+use Rattle.protocol.proofs.Generator.{length-workload, workload-begins, workload-same, workload-valid, generate-passed}
 use Rattle.competitive.proofs.Whole.{answers-whole}
 
 -- what the generator leaves where it refuses nothing
-pub generate-is : (s : Setup) (seed : ℕ) (lent : List Request) → generateRefusal s seed (length lent) ≡ noRefusal → generate s seed lent ≡ generated s seed (length lent)
-unfolding generate
-generate-is s seed lent e = rw e
+pub generated-is : (s : Setup) (seed : ℕ) (lent : List Request) → generateRefusal s seed (length lent) ≡ noRefusal → generated s seed lent ≡ workload s seed (length lent)
+unfolding generated
+generated-is s seed lent e = rw e
 
 -- of n requests
-pub generated-taken : (s : Setup) (seed n : ℕ) → generateRefusal s seed n ≡ noRefusal → (vs : List ℕ) → length vs ≡ n
-    → run (engine s) (fresh s) freshAccount (generated s seed n) vs .answer ≡ answered n noRefusal 0
-generated-taken s seed n e vs k =
+pub workload-taken : (s : Setup) (seed n : ℕ) → generateRefusal s seed n ≡ noRefusal → (vs : List ℕ) → length vs ≡ n
+    → run (engine s) (fresh s) freshAccount (workload s seed n) vs .answer ≡ answered n noRefusal 0
+workload-taken s seed n e vs k =
     let p = generate-passed s seed n e in
-    let l : length (generated s seed n) ≡ n = length-generated s seed n in
-    answers-whole s (p .accepted) (generated s seed n) (generated-valid s (setup-fits s (p .accepted)) seed n) (omega (arith, l, p .few)) vs (k ∙ sym l)
+    let l : length (workload s seed n) ≡ n = length-workload s seed n in
+    answers-whole s (p .accepted) (workload s seed n) (workload-valid s (setup-fits s (p .accepted)) seed n) (omega (arith, l, p .few)) vs (k ∙ sym l)
     ∙ ap (λ (z : ℕ). answered z noRefusal 0) l
 
 pub repeatable : (s : Setup) (seed : ℕ) (lent : List Request) → generateRefusal s seed (length lent) ≡ noRefusal → Repeatable s seed lent
 repeatable s seed lent e = record {
-  taken = λ vs k. rw (generate-is s seed lent e) (generated-taken s seed (length lent) e vs k);
-  alike = λ t other e′ n v l. generate-is t seed other e′ ∙ generated-same t s seed (length other) n v ∙ ap (generated s seed) l ∙ sym (generate-is s seed lent e);
+  taken = λ vs k. rw (generated-is s seed lent e) (workload-taken s seed (length lent) e vs k);
+  alike = λ t other e′ n v l. generated-is t seed other e′ ∙ workload-same t s seed (length other) n v ∙ ap (workload s seed) l ∙ sym (generated-is s seed lent e);
   begins = λ longer e′ l.
       let k : length longer ≡ length lent + (length longer - length lent) = omega (arith, l) in
-      ap (take (length lent)) (generate-is s seed longer e′ ∙ ap (generated s seed) k) ∙ generated-begins s seed (length lent) (length longer - length lent) ∙ sym (generate-is s seed lent e);
+      ap (take (length lent)) (generated-is s seed longer e′ ∙ ap (workload s seed) k) ∙ workload-begins s seed (length lent) (length longer - length lent) ∙ sym (generated-is s seed lent e);
 }

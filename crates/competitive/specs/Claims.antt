@@ -17,7 +17,7 @@ use Rattle.protocol.specs.Engines.{answered, run, Run, State, outcomes, runs, t
 use Rattle.protocol.specs.Runs.{engine, opening}
 use Rattle.protocol.specs.Rival.{Rival, noCopies, Legal, costs, lastCopies}
 use Rattle.protocol.specs.Pricer.{accepted, verdict, priceRefusal, price, priceTables}
-use Rattle.protocol.specs.Generator.{generateRefusal, generate}
+use Rattle.protocol.specs.Generator.{generateRefusal, generated}
 use Rattle.competitive.specs.EngineSchedule.{EngineIsRival}
 use Rattle.protocol_types.specs.declared.Setup.{Setup}
 use Rattle.protocol_types.specs.declared.Variable.{Variable}
@@ -114,13 +114,13 @@ pub record JudgedRight (s : Setup) (qs : List Request) (es : List Entry) : Type 
 pub record Repeatable (s : Setup) (seed : ℕ) (lent : List Request) : Type 0 where
   -- "A generated list must be one that fresh tables and a fresh account take to the end."
   pub taken : (vs : List ℕ) → length vs ≡ length lent
-      → run (engine s) (fresh s) freshAccount (generate s seed lent) vs .answer ≡ answered (length lent) noRefusal 0
+      → run (engine s) (fresh s) freshAccount (generated s seed lent) vs .answer ≡ answered (length lent) noRefusal 0
   -- it depends on N, on M × p, on the seed and on the count alone: not on lines and prices, nor on what the list held
   pub alike : (t : Setup) (other : List Request) → generateRefusal t seed (length other) ≡ noRefusal
-      → t .processors ≡ s .processors → variables t ≡ variables s → length other ≡ length lent → generate t seed other ≡ generate s seed lent
+      → t .processors ≡ s .processors → variables t ≡ variables s → length other ≡ length lent → generated t seed other ≡ generated s seed lent
   -- a longer list begins with it
   pub begins : (longer : List Request) → generateRefusal s seed (length longer) ≡ noRefusal → length lent ≤ length longer
-      → take (length lent) (generate s seed longer) ≡ generate s seed lent
+      → take (length lent) (generated s seed longer) ≡ generated s seed lent
 
 -- ---- runs that 1, 10, 2, 20 or 21 refuses at once add nothing, so that 'any list of runs' has no gap: of every setup and every state
 

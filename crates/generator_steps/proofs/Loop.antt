@@ -18,7 +18,7 @@ use Rattle.protocol_types.specs.declared.Setup.{Setup}
 use Rattle.protocol_types.specs.declared.Request.{Request}
 use Rattle.protocol_types.proofs.Board.{setup-fits}
 use Rattle.protocol.proofs.Generator.{drawAfter, drawAfter-suc, generate-passed}
-use Rattle.generator_steps.specs.Generation.{drawing, refused, begun, turned}
+use Rattle.generator_steps.specs.Generation.{generationAt, generationRefused, generationBegun, generationTurned}
 use Rattle.generator_steps.specs.declared.Generation.{Generation}
 
 module _ (s : Setup) (seed n : ℕ) where
@@ -27,7 +27,7 @@ module _ (s : Setup) (seed n : ℕ) where
 
   -- what stands after k requests
   abbrev stage : Bool → ℕ → Generation
-  stage c k = cond c (drawing s (drawAfter seed k) k n) (refused R)
+  stage c k = cond c (generationAt s (drawAfter seed k) k n) (generationRefused R)
 
   -- while it goes on, k requests being stored
   record Goes (p : Generation) (k : ℕ) : Type 0 where
@@ -38,7 +38,7 @@ module _ (s : Setup) (seed n : ℕ) where
     request : p .request ≡ requestAfter s (drawAfter seed k)
 
   goes-on : (p : Generation) (k : ℕ) → p ≡ stage (eqb R noRefusal) k → p .going ≡ true → Goes p k
-  unfolding drawing refused
+  unfolding generationAt generationRefused
   goes-on p k e go = by-case (eqb R noRefusal) refl
     where
       by-case : (c : Bool) → eqb R noRefusal ≡ c → Goes p k
@@ -65,8 +65,8 @@ module _ (s : Setup) (seed n : ℕ) where
     same true = sym none
     same false = refl
 
-    pub inv-start : Inv (begun s seed n) lent
-    unfolding begun
+    pub inv-start : Inv (generationBegun s seed n) lent
+    unfolding generationBegun
     inv-start = record { stored = 0; most = omega arith; is = refl; holds = same (eqb R noRefusal) }
 
     module _ (p : Generation) (list : List A) (i : Inv p list) where
@@ -80,10 +80,10 @@ module _ (s : Setup) (seed n : ℕ) where
         pub inv-within : p .at < n
         inv-within = omega (arith, goes .at, goes .within)
 
-        next-is : turned s n p ≡ drawing s (drawAfter seed (suc (i .stored))) (suc (i .stored)) n
+        next-is : generationTurned s n p ≡ generationAt s (drawAfter seed (suc (i .stored))) (suc (i .stored)) n
         next-is =
-            ap (λ (x : ℕ). drawing s x (p .at + 1) n) (goes .last ∙ sym (drawAfter-suc seed (i .stored)))
-            ∙ ap (λ (k : ℕ). drawing s (drawAfter seed (suc (i .stored))) k n) (add-one (p .at) ∙ ap suc (goes .at))
+            ap (λ (x : ℕ). generationAt s x (p .at + 1) n) (goes .last ∙ sym (drawAfter-suc seed (i .stored)))
+            ∙ ap (λ (k : ℕ). generationAt s (drawAfter seed (suc (i .stored))) k n) (add-one (p .at) ∙ ap suc (goes .at))
 
         list-is : list ≡ front (i .stored)
         list-is = i .holds ∙ ap (λ (c : Bool). cond c (front (i .stored)) lent) (goes .accepted)
@@ -93,7 +93,7 @@ module _ (s : Setup) (seed n : ℕ) where
             ap (λ (l : List A). put l (p .at) (p .request)) list-is ∙ ap (λ (k : ℕ). put (front (i .stored)) k (p .request)) (goes .at)
             ∙ ap (put (front (i .stored)) (i .stored)) (goes .request) ∙ one-more (i .stored) (goes .within)
 
-        pub inv-turn : Inv (turned s n p) (put list (p .at) (p .request))
+        pub inv-turn : Inv (generationTurned s n p) (put list (p .at) (p .request))
         inv-turn = record {
           stored = suc (i .stored);
           most = omega (arith, goes .within);
@@ -101,8 +101,8 @@ module _ (s : Setup) (seed n : ℕ) where
           holds = stores ∙ sym (ap (λ (c : Bool). cond c (front (suc (i .stored))) lent) (goes .accepted));
         }
 
-        pub inv-falls : n - turned s n p .at < n - p .at
-        unfolding drawing
+        pub inv-falls : n - generationTurned s n p .at < n - p .at
+        unfolding generationAt
         inv-falls = omega (arith, inv-within)
 
       -- at the end: the refusal, and the list with all requests stored, or as it was lent
@@ -110,7 +110,7 @@ module _ (s : Setup) (seed n : ℕ) where
       End c = (p .refusal ≡ R) × (list ≡ cond c (front n) lent)
 
       pub inv-end : p .going ≡ false → End (eqb R noRefusal)
-      unfolding drawing refused
+      unfolding generationAt generationRefused
       inv-end stop = by-case (eqb R noRefusal) refl (i .is) (i .holds)
         where
           by-case : (c : Bool) → eqb R noRefusal ≡ c → p ≡ stage c (i .stored) → list ≡ cond c (front (i .stored)) lent → End c

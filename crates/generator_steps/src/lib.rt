@@ -7,7 +7,7 @@ ghost use mathlib.Core.Path.{_≡_};
 ghost use Prim.Native.Nat.{_<_};
 ghost use Rattle.protocol_types.specs.Board.{Fits};
 ghost use Rattle.protocol.specs.Generator.{xorshift, requestDrawn, generateRefusal};
-ghost use Rattle.generator_steps.specs.Generation.{refused, drawing, begun, turned};
+ghost use Rattle.generator_steps.specs.Generation.{generationRefused, generationAt, generationBegun, generationTurned};
 
 // The longest list.
 const LIST_LIMIT: usize = protocol_types::REQUEST_LIMIT as usize;
@@ -67,9 +67,9 @@ fn generate_refusal(setup: Setup, seed: u32, count: usize) -> u32
 }
 
 // The list where the request at `at` is drawn next, x being the draw before it.
-fn draw(setup: Setup, x: u32, at: usize, count: usize) -> Generation
+fn generation_at(setup: Setup, x: u32, at: usize, count: usize) -> Generation
     requires { ⌜ Fits setup ⌝ }
-    ensures { λ r. ⌜ r ≡ drawing setup x at count ⌝ }
+    ensures { λ r. ⌜ r ≡ generationAt setup x at count ⌝ }
 {
     let first = next_draw(x);
     let second = next_draw(first);
@@ -85,7 +85,7 @@ fn draw(setup: Setup, x: u32, at: usize, count: usize) -> Generation
 
 // A list that is refused by `refusal`.
 fn refuse(refusal: u32) -> Generation
-    ensures { λ r. ⌜ r ≡ refused refusal ⌝ }
+    ensures { λ r. ⌜ r ≡ generationRefused refusal ⌝ }
 {
     Generation {
         going: false,
@@ -101,19 +101,19 @@ fn refuse(refusal: u32) -> Generation
 
 // A list of `count` requests before its first one.
 pub fn begin(setup: Setup, seed: u32, count: usize) -> Generation
-    ensures { λ r. ⌜ r ≡ begun setup seed count ⌝ }
+    ensures { λ r. ⌜ r ≡ generationBegun setup seed count ⌝ }
 {
     let refusal = generate_refusal(setup, seed, count);
     if refusal != protocol_types::NO_REFUSAL {
         return refuse(refusal);
     }
-    draw(setup, seed, 0, count)
+    generation_at(setup, seed, 0, count)
 }
 
 // The same once its next request is stored.
 pub fn turn(setup: Setup, p: Generation, count: usize) -> Generation
     requires { ⌜ Fits setup × (p .at < count) ⌝ }
-    ensures { λ r. ⌜ r ≡ turned setup count p ⌝ }
+    ensures { λ r. ⌜ r ≡ generationTurned setup count p ⌝ }
 {
-    draw(setup, p.last_draw, p.at + 1, count)
+    generation_at(setup, p.last_draw, p.at + 1, count)
 }

@@ -12,7 +12,7 @@ ghost use Rattle.rival_copies.specs.Copies.{rivalBefore, rivalAfter};
 ghost use Rattle.run_progress.specs.Progress.{outcome};
 ghost use Rattle.trace_lines.specs.Trace.{endedOn};
 ghost use Rattle.host_looks.specs.Looks.{lookLength, lookOffset};
-ghost use Rattle.host_generator.specs.Numbers.{generateNumbersRefusal, generateNumbers};
+ghost use Rattle.host_generator.specs.Numbers.{generateNumbersRefusal, generatedNumbers};
 ghost use Rattle.host_numbers.specs.Numbers.{runNumbers, priceInNumbers, priceTablesOfNumbers};
 ghost use Rattle.host.specs.Host.{hostVersion, setupOf, accountBefore, accountAfter, blockNumbered, reportOf};
 
@@ -279,7 +279,7 @@ pub extern "C" fn cuzkelor_generate(
     requests: &mut [u32],
 ) -> u32
     ensures { λ r. ⌜ (r ≡ generateNumbersRefusal (setupOf processors lines «block_words» «block_count» «fetch_price» «write_back_price») seed (now (requests .entry)))
-        × (now (requests .exit) ≡ generateNumbers (setupOf processors lines «block_words» «block_count» «fetch_price» «write_back_price») seed (now (requests .entry))) ⌝ }
+        × (now (requests .exit) ≡ generatedNumbers (setupOf processors lines «block_words» «block_count» «fetch_price» «write_back_price») seed (now (requests .entry))) ⌝ }
 {
     let setup = setup_of(
         processors,

@@ -10,19 +10,19 @@ use lib.Dec.{eqb}
 use borrow.Author.Tests.{eqb-true}
 use Rattle.protocol_types.specs.Refusals.{noRefusal}
 use Rattle.protocol_types.specs.Board.{Fits}
-use Rattle.protocol.specs.Generator.{requestAfter, generated, generateRefusal, generate}
+use Rattle.protocol.specs.Generator.{requestAfter, workload, generateRefusal, generated}
 use Rattle.protocol_types.specs.declared.Setup.{Setup}
 use Rattle.protocol_types.specs.declared.Request.{Request}
-use Rattle.protocol.proofs.Generator.{drawAfter, generated-zero, generated-more, length-generated}
+use Rattle.protocol.proofs.Generator.{drawAfter, workload-zero, workload-more, length-workload}
 use Rattle.host_decoding.specs.Records.{requestWidth, whole, requestsOf}
 use Rattle.host_decoding.proofs.Decoding.{request-count}
 use Rattle.host_encoding.specs.Numbers.{requestNumbers, numbersOf}
 use Rattle.host_encoding.proofs.Numbers.{length-numbers, numbers-append}
-use Rattle.generator_steps.specs.Generation.{begun, turned}
+use Rattle.generator_steps.specs.Generation.{generationBegun, generationTurned}
 use Rattle.generator_steps.specs.declared.Generation.{Generation}
 use Rattle.generator_steps.proofs.Fronts.{sets-after}
 use Rattle.generator_steps.proofs.Loop as any
-use Rattle.host_generator.specs.Numbers.{generateNumbersRefusal, generateNumbers}
+use Rattle.host_generator.specs.Numbers.{generateNumbersRefusal, generatedNumbers}
 
 -- a request's numbers are stored at its place
 abbrev pub put : List ℕ → ℕ → Request → List ℕ
@@ -31,18 +31,18 @@ put l k q = sets l (k * requestWidth) (requestNumbers q)
 module _ (s : Setup) (seed : ℕ) (ns : List ℕ) (n : ℕ) where
   -- the numbers of the first k requests stored
   abbrev pub front : ℕ → List ℕ
-  front k = numbersOf (generated s seed k) ++ drop (k * requestWidth) ns
+  front k = numbersOf (workload s seed k) ++ drop (k * requestWidth) ns
 
   pub front-none : front 0 ≡ ns
-  front-none = rw (generated-zero s seed)
+  front-none = rw (workload-zero s seed)
 
   pub front-more : n ≡ length (requestsOf ns) → (k : ℕ) → k < n → put (front k) k (requestAfter s (drawAfter seed k)) ≡ front (suc k)
   front-more is-n k h =
       let q : Request = requestAfter s (drawAfter seed k) in
-      let e : length (numbersOf (generated s seed k)) ≡ k * requestWidth = omega (arith, length-numbers (generated s seed k), length-generated s seed k) in
+      let e : length (numbersOf (workload s seed k)) ≡ k * requestWidth = omega (arith, length-numbers (workload s seed k), length-workload s seed k) in
       let d : suc k * requestWidth ≡ k * requestWidth + requestWidth = omega arith in
-      sets-after (numbersOf (generated s seed k)) (requestNumbers q) ns (k * requestWidth) e (omega (arith, h, is-n, request-count ns))
-      ∙ rw (generated-more s seed k, numbers-append (generated s seed k) (q ∷ []), d)
+      sets-after (numbersOf (workload s seed k)) (requestNumbers q) ns (k * requestWidth) e (omega (arith, h, is-n, request-count ns))
+      ∙ rw (workload-more s seed k, numbers-append (workload s seed k) (q ∷ []), d)
 
   -- n is the number of requests that the numbers name
   pub record Inv (p : Generation) (list : List ℕ) : Type 0 where
@@ -50,7 +50,7 @@ module _ (s : Setup) (seed : ℕ) (ns : List ℕ) (n : ℕ) where
     pub as-long : length list ≡ length ns
     pub holds : any.Inv s seed n ns front put front-none (front-more is-n) p list
 
-  pub inv-start : n ≡ length (requestsOf ns) → (p : Generation) → p ≡ begun s seed n → Inv p ns
+  pub inv-start : n ≡ length (requestsOf ns) → (p : Generation) → p ≡ generationBegun s seed n → Inv p ns
   inv-start e p is-p = rw is-p (record { is-n = e; as-long = refl; holds = any.inv-start s seed n ns front put front-none (front-more e) })
 
   module _ (p : Generation) (list : List ℕ) (i : Inv p list) where
@@ -65,37 +65,37 @@ module _ (s : Setup) (seed : ℕ) (ns : List ℕ) (n : ℕ) where
       pub inv-room : p .at < length list / requestWidth
       inv-room = omega (arith, inv-within, i .is-n, i .as-long, request-count ns)
 
-      pub inv-turn : (d : Generation) → d ≡ turned s n p → (l : List ℕ) → l ≡ put list (p .at) (p .request) → Inv d l
+      pub inv-turn : (d : Generation) → d ≡ generationTurned s n p → (l : List ℕ) → l ≡ put list (p .at) (p .request) → Inv d l
       inv-turn d is-d l is-l = rw (is-d, is-l) (record {
         is-n = i .is-n;
         as-long = length-sets list (p .at * requestWidth) (requestNumbers (p .request)) ∙ i .as-long;
         holds = any.inv-turn s seed n ns front put front-none (front-more (i .is-n)) p list (i .holds) go;
       })
 
-      pub inv-falls : (d : Generation) → d ≡ turned s n p → n - d .at < n - p .at
+      pub inv-falls : (d : Generation) → d ≡ generationTurned s n p → n - d .at < n - p .at
       inv-falls d is-d = rw is-d (any.inv-falls s seed n ns front put front-none (front-more (i .is-n)) p list (i .holds) go)
 
     -- what the contract says, where the list is whole
     module _ (w : whole requestWidth ns ≡ true) where
-      front-all : front n ≡ numbersOf (generated s seed n)
+      front-all : front n ≡ numbersOf (workload s seed n)
       unfolding whole
       front-all =
           let m : length ns ≤ n * requestWidth = omega (arith, eqb-true (length ns % requestWidth) 0 w, i .is-n, request-count ns) in
-          rw (drop-of-length-le ns {i = n * requestWidth} m, append-nil (numbersOf (generated s seed n)))
+          rw (drop-of-length-le ns {i = n * requestWidth} m, append-nil (numbersOf (workload s seed n)))
 
       refusal-is : generateNumbersRefusal s seed ns ≡ generateRefusal s seed n
       unfolding generateNumbersRefusal
       refusal-is = rw (w, i .is-n)
 
-      numbers-are : cond (eqb (generateRefusal s seed n) noRefusal) (front n) ns ≡ generateNumbers s seed ns
-      unfolding generateNumbers generate
+      numbers-are : cond (eqb (generateRefusal s seed n) noRefusal) (front n) ns ≡ generatedNumbers s seed ns
+      unfolding generatedNumbers generated
       numbers-are = rw (refusal-is, front-all, ← i .is-n) (go (eqb (generateRefusal s seed n) noRefusal))
         where
-          go : (c : Bool) → cond c (numbersOf (generated s seed n)) ns ≡ cond c (numbersOf (cond c (generated s seed n) (requestsOf ns))) ns
+          go : (c : Bool) → cond c (numbersOf (workload s seed n)) ns ≡ cond c (numbersOf (cond c (workload s seed n) (requestsOf ns))) ns
           go true = refl
           go false = refl
 
-      pub inv-end : p .going ≡ false → (p .refusal ≡ generateNumbersRefusal s seed ns) × (list ≡ generateNumbers s seed ns)
+      pub inv-end : p .going ≡ false → (p .refusal ≡ generateNumbersRefusal s seed ns) × (list ≡ generatedNumbers s seed ns)
       inv-end stop =
           let e = any.inv-end s seed n ns front put front-none (front-more (i .is-n)) p list (i .holds) stop in
           (e .0 ∙ sym refusal-is, e .1 ∙ numbers-are)

@@ -11,7 +11,7 @@ use Rattle.protocol_types.specs.Board.{setupRefusal}
 use Rattle.protocol_types.specs.declared.Setup.{Setup}
 use Rattle.protocol_types.proofs.Refusals.{neither-refuses}
 use Rattle.host_decoding.specs.Records.{requestWidth, whole, partialRefusal}
-use Rattle.host_generator.specs.Numbers.{generateNumbersRefusal, generateNumbers}
+use Rattle.host_generator.specs.Numbers.{generateNumbersRefusal, generatedNumbers}
 
 -- it is not 0
 pub partial-refuses : (s : Setup) → partialRefusal s ≢ noRefusal
@@ -19,6 +19,6 @@ unfolding partialRefusal
 partial-refuses s e = omega (arith, neither-refuses (setupRefusal s) wrongLength e .1)
 
 pub partial-refused : (s : Setup) (seed : ℕ) (ns : List ℕ) → whole requestWidth ns ≡ false → (r : ℕ) → r ≡ partialRefusal s
-    → (r ≡ generateNumbersRefusal s seed ns) × (ns ≡ generateNumbers s seed ns)
-unfolding generateNumbers generateNumbersRefusal
+    → (r ≡ generateNumbersRefusal s seed ns) × (ns ≡ generatedNumbers s seed ns)
+unfolding generatedNumbers generateNumbersRefusal
 partial-refused s seed ns w r is-r = rw (w, is-r, ne-eqb (partialRefusal s) noRefusal (partial-refuses s)) (refl, refl)

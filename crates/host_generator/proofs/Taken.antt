@@ -11,7 +11,7 @@ use Rattle.protocol.specs.Tables.{fresh}
 use Rattle.protocol.specs.Accounts.{freshAccount}
 use Rattle.protocol.specs.Engines.{answered, run}
 use Rattle.protocol.specs.Runs.{engine}
-use Rattle.protocol.specs.Generator.{generateRefusal, generate}
+use Rattle.protocol.specs.Generator.{generateRefusal, generated}
 use Rattle.protocol_types.specs.declared.Setup.{Setup}
 use Rattle.protocol_types.specs.declared.Request.{Request}
 use Rattle.competitive.specs.Claims.{Repeatable}
@@ -19,12 +19,12 @@ use Rattle.competitive.proofs.Generator.{repeatable}
 use Rattle.host_decoding.specs.Records.{requestWidth, whole, partialRefusal, requestsOf}
 use Rattle.host_encoding.specs.Numbers.{numbersOf}
 use Rattle.host_encoding.proofs.Numbers.{length-numbers, named-back}
-use Rattle.host_generator.specs.Numbers.{generateNumbersRefusal, generateNumbers}
+use Rattle.host_generator.specs.Numbers.{generateNumbersRefusal, generatedNumbers}
 use Rattle.host_generator.proofs.Refused.{partial-refuses}
 
 module _ (s : Setup) (seed : ℕ) (ns : List ℕ) (accepted : generateNumbersRefusal s seed ns ≡ noRefusal) where
-  numbers-are : generateNumbers s seed ns ≡ numbersOf (generate s seed (requestsOf ns))
-  unfolding generateNumbers
+  numbers-are : generatedNumbers s seed ns ≡ numbersOf (generated s seed (requestsOf ns))
+  unfolding generatedNumbers
   numbers-are = rw accepted
 
   -- only a whole list is not refused
@@ -36,13 +36,13 @@ module _ (s : Setup) (seed : ℕ) (ns : List ℕ) (accepted : generateNumbersRef
       go true e = e
       go false e = absurd (partial-refuses s e)
 
-  pub numbers-whole : whole requestWidth (generateNumbers s seed ns) ≡ true
+  pub numbers-whole : whole requestWidth (generatedNumbers s seed ns) ≡ true
   unfolding whole
-  numbers-whole = rw numbers-are (eq-eqb (length (numbersOf (generate s seed (requestsOf ns))) % requestWidth) 0 (omega (arith, length-numbers (generate s seed (requestsOf ns)))))
+  numbers-whole = rw numbers-are (eq-eqb (length (numbersOf (generated s seed (requestsOf ns))) % requestWidth) 0 (omega (arith, length-numbers (generated s seed (requestsOf ns)))))
 
-  pub numbers-name : requestsOf (generateNumbers s seed ns) ≡ generate s seed (requestsOf ns)
-  numbers-name = ap requestsOf numbers-are ∙ named-back (generate s seed (requestsOf ns))
+  pub numbers-name : requestsOf (generatedNumbers s seed ns) ≡ generated s seed (requestsOf ns)
+  numbers-name = ap requestsOf numbers-are ∙ named-back (generated s seed (requestsOf ns))
 
   pub numbers-taken : (vs : List ℕ) → length vs ≡ length (requestsOf ns)
-      → run (engine s) (fresh s) freshAccount (requestsOf (generateNumbers s seed ns)) vs .answer ≡ answered (length (requestsOf ns)) noRefusal 0
+      → run (engine s) (fresh s) freshAccount (requestsOf (generatedNumbers s seed ns)) vs .answer ≡ answered (length (requestsOf ns)) noRefusal 0
   numbers-taken vs e = rw numbers-name (repeatable s seed (requestsOf ns) list-accepted .taken vs e)

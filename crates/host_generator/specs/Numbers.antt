@@ -5,7 +5,7 @@ use mathlib.Core.List.{List}
 use lib.ListN.{length}
 use lib.Dec.{eqb}
 use Rattle.protocol_types.specs.Refusals.{noRefusal}
-use Rattle.protocol.specs.Generator.{generateRefusal, generate}
+use Rattle.protocol.specs.Generator.{generateRefusal, generated}
 use Rattle.protocol_types.specs.declared.Setup.{Setup}
 use Rattle.host_decoding.specs.Records.{requestWidth, whole, partialRefusal, requestsOf}
 use Rattle.host_encoding.specs.Numbers.{numbersOf}
@@ -15,5 +15,5 @@ unfoldable pub generateNumbersRefusal : Setup → ℕ → List ℕ → ℕ
 generateNumbersRefusal s seed ns = cond (whole requestWidth ns) (generateRefusal s seed (length (requestsOf ns))) (partialRefusal s)
 
 -- the lent numbers after it: those of as many requests, or untouched by a refusal
-unfoldable pub generateNumbers : Setup → ℕ → List ℕ → List ℕ
-generateNumbers s seed ns = cond (eqb (generateNumbersRefusal s seed ns) noRefusal) (numbersOf (generate s seed (requestsOf ns))) ns
+unfoldable pub generatedNumbers : Setup → ℕ → List ℕ → List ℕ
+generatedNumbers s seed ns = cond (eqb (generateNumbersRefusal s seed ns) noRefusal) (numbersOf (generated s seed (requestsOf ns))) ns

@@ -18,7 +18,7 @@ use Rattle.protocol_types.specs.Lists.{Each}
 use Rattle.protocol_types.specs.Refusals.{noRefusal, tooMany, seedZero}
 use Rattle.protocol_types.specs.Board.{setupRefusal, Fits, variables}
 use Rattle.protocol_types.specs.Conditions.{Named, Valid, AllValid}
-use Rattle.protocol.specs.Generator.{shiftLeft, xorLeft, xorRight, xorshift, draws, even, requestDrawn, generated, thirdDraw, requestAfter, generateLimit, generateRefusal}
+use Rattle.protocol.specs.Generator.{shiftLeft, xorLeft, xorRight, xorshift, draws, even, requestDrawn, workload, thirdDraw, requestAfter, generateLimit, generateRefusal}
 use Rattle.protocol_types.specs.declared.Setup.{Setup}
 use Rattle.protocol_types.specs.declared.Request.{Request}
 use Rattle.protocol_types.proofs.Laws.{choice}
@@ -115,17 +115,17 @@ draws-nonzero x (suc n) h e =
 
 -- ---- request by request
 
-pub generated-suc : (s : Setup) (x n : ℕ) → generated s x (suc n) ≡ requestAfter s x ∷ generated s (thirdDraw x) n
-unfolding generated requestAfter
-generated-suc s x n = simp (suc-mul, unary-clauses)
+pub workload-suc : (s : Setup) (x n : ℕ) → workload s x (suc n) ≡ requestAfter s x ∷ workload s (thirdDraw x) n
+unfolding workload requestAfter
+workload-suc s x n = simp (suc-mul, unary-clauses)
 
-pub generated-zero : (s : Setup) (x : ℕ) → generated s x 0 ≡ []
-unfolding generated
-generated-zero s x = refl
+pub workload-zero : (s : Setup) (x : ℕ) → workload s x 0 ≡ []
+unfolding workload
+workload-zero s x = refl
 
-pub length-generated : (s : Setup) (x n : ℕ) → length (generated s x n) ≡ n
-length-generated s x zero = ap length (generated-zero s x)
-length-generated s x (suc n) = ap length (generated-suc s x n) ∙ ap suc (length-generated s (thirdDraw x) n)
+pub length-workload : (s : Setup) (x n : ℕ) → length (workload s x n) ≡ n
+length-workload s x zero = ap length (workload-zero s x)
+length-workload s x (suc n) = ap length (workload-suc s x n) ∙ ap suc (length-workload s (thirdDraw x) n)
 
 -- the last draw that n requests used
 abbrev pub drawAfter : ℕ → ℕ → ℕ
@@ -136,18 +136,18 @@ pub drawAfter-suc : (x n : ℕ) → drawAfter x (suc n) ≡ thirdDraw (drawAfter
 drawAfter-suc x zero = refl
 drawAfter-suc x (suc n) = drawAfter-suc (thirdDraw x) n
 
-pub generated-more : (s : Setup) (x n : ℕ) → generated s x (suc n) ≡ generated s x n ++ (requestAfter s (drawAfter x n) ∷ [])
-generated-more s x zero = rw (generated-suc s x 0, generated-zero s (thirdDraw x), generated-zero s x)
-generated-more s x (suc n) =
-    rw (generated-suc s x (suc n), generated-suc s x n) (ap (λ (l : List Request). requestAfter s x ∷ l) (generated-more s (thirdDraw x) n))
+pub workload-more : (s : Setup) (x n : ℕ) → workload s x (suc n) ≡ workload s x n ++ (requestAfter s (drawAfter x n) ∷ [])
+workload-more s x zero = rw (workload-suc s x 0, workload-zero s (thirdDraw x), workload-zero s x)
+workload-more s x (suc n) =
+    rw (workload-suc s x (suc n), workload-suc s x n) (ap (λ (l : List Request). requestAfter s x ∷ l) (workload-more s (thirdDraw x) n))
 
 -- ---- a longer list begins with the shorter one
 
-pub generated-begins : (s : Setup) (seed n m : ℕ) → take n (generated s seed (n + m)) ≡ generated s seed n
-generated-begins s x zero m = sym (generated-zero s x)
-generated-begins s x (suc n) m =
+pub workload-begins : (s : Setup) (seed n m : ℕ) → take n (workload s seed (n + m)) ≡ workload s seed n
+workload-begins s x zero m = sym (workload-zero s x)
+workload-begins s x (suc n) m =
     let e : suc n + m ≡ suc (n + m) = omega arith in
-    rw (e, generated-suc s x (n + m), generated-suc s x n) (ap (λ (l : List Request). requestAfter s x ∷ l) (generated-begins s (thirdDraw x) n m))
+    rw (e, workload-suc s x (n + m), workload-suc s x n) (ap (λ (l : List Request). requestAfter s x ∷ l) (workload-begins s (thirdDraw x) n m))
 
 -- ---- N, M × p and the seed alone play a part
 
@@ -155,10 +155,10 @@ same-request : (s t : Setup) (x : ℕ) → s .processors ≡ t .processors → v
 unfolding requestAfter requestDrawn
 same-request s t x e f = rw (e, f)
 
-pub generated-same : (s t : Setup) (seed n : ℕ) → s .processors ≡ t .processors → variables s ≡ variables t → generated s seed n ≡ generated t seed n
-generated-same s t x zero e f = generated-zero s x ∙ sym (generated-zero t x)
-generated-same s t x (suc n) e f =
-    rw (generated-suc s x n, generated-suc t x n, same-request s t x e f) (ap (λ (l : List Request). requestAfter t x ∷ l) (generated-same s t (thirdDraw x) n e f))
+pub workload-same : (s t : Setup) (seed n : ℕ) → s .processors ≡ t .processors → variables s ≡ variables t → workload s seed n ≡ workload t seed n
+workload-same s t x zero e f = workload-zero s x ∙ sym (workload-zero t x)
+workload-same s t x (suc n) e f =
+    rw (workload-suc s x n, workload-suc t x n, same-request s t x e f) (ap (λ (l : List Request). requestAfter t x ∷ l) (workload-same s t (thirdDraw x) n e f))
 
 -- ---- every request is valid
 
@@ -172,9 +172,9 @@ valid-after s ok x = record {
   operation = choice (Named s) (even (thirdDraw x)) (λ e. mod-lt _ (some-variable s ok)) (λ e. mod-lt _ (some-variable s ok));
 }
 
-pub generated-valid : (s : Setup) → Fits s → (seed n : ℕ) → AllValid s (generated s seed n)
-generated-valid s ok x zero = rw (generated-zero s x) tt
-generated-valid s ok x (suc n) = rw (generated-suc s x n) (valid-after s ok x, generated-valid s ok (thirdDraw x) n)
+pub workload-valid : (s : Setup) → Fits s → (seed n : ℕ) → AllValid s (workload s seed n)
+workload-valid s ok x zero = rw (workload-zero s x) tt
+workload-valid s ok x (suc n) = rw (workload-suc s x n) (valid-after s ok x, workload-valid s ok (thirdDraw x) n)
 
 -- ---- what 1, 10, 11 and 5 let through
 

@@ -58,8 +58,8 @@ requestsDrawn s (a ∷ b ∷ []) = []
 requestsDrawn s (a ∷ b ∷ c ∷ ds) = requestDrawn s a b c ∷ requestsDrawn s ds
 
 -- the n requests of a seed
-unfoldable pub generated : Setup → ℕ → ℕ → List Request
-generated s seed n = requestsDrawn s (draws seed (n * 3))
+unfoldable pub workload : Setup → ℕ → ℕ → List Request
+workload s seed n = requestsDrawn s (draws seed (n * 3))
 
 -- ---- the same, one request at a time
 
@@ -85,5 +85,5 @@ generateRefusal s seed n =
     (unless (leb n generateLimit) tooMany noRefusal))
 
 -- the lent list after it: "A refusal leaves the list untouched"
-unfoldable pub generate : Setup → ℕ → List Request → List Request
-generate s seed lent = cond (eqb (generateRefusal s seed (length lent)) noRefusal) (generated s seed (length lent)) lent
+unfoldable pub generated : Setup → ℕ → List Request → List Request
+generated s seed lent = cond (eqb (generateRefusal s seed (length lent)) noRefusal) (workload s seed (length lent)) lent

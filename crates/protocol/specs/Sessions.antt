@@ -13,7 +13,7 @@ use Rattle.protocol.specs.Engines.{answered, Outcome, run}
 use Rattle.protocol.specs.Runs.{startRefusal, started, looked, engine}
 use Rattle.protocol.specs.Rival.{Rival, rival}
 use Rattle.protocol.specs.Pricer.{priceRefusal, price, priceTables, PriceNumbers, numbered, inNumbers}
-use Rattle.protocol.specs.Generator.{draws, generateRefusal, generate}
+use Rattle.protocol.specs.Generator.{draws, generateRefusal, generated}
 use Rattle.protocol_types.specs.declared.Setup.{Setup}
 use Rattle.protocol_types.specs.declared.Request.{Request}
 use Rattle.protocol_types.specs.declared.Operation.{Operation}
@@ -283,11 +283,11 @@ checkedPasses s r n m x =
 
 abbrev pub generatorPasses : Setup → ℕ → ℕ → List Request → Bool
 generatorPasses s seed x qs =
-    eqb (generateRefusal s seed (length qs)) x && sameRequests (generate s seed (replicate (length qs) unwritten)) qs
+    eqb (generateRefusal s seed (length qs)) x && sameRequests (generated s seed (replicate (length qs) unwritten)) qs
 
 abbrev pub takenPasses : Setup → ℕ → ℕ → Bool
 takenPasses s seed n =
-    let o : Outcome Tables = run (engine s) (fresh s) freshAccount (generate s seed (replicate n unwritten)) (replicate n 9) in
+    let o : Outcome Tables = run (engine s) (fresh s) freshAccount (generated s seed (replicate n unwritten)) (replicate n 9) in
     eqb (generateRefusal s seed n) 0 && sameAnswer (o .answer) (answered n 0 0)
 
 abbrev pub passes : Row → Bool

@@ -58,8 +58,8 @@ use Rattle.generator_steps.specs.declared.Generation.{Generation}
 use Rattle.generator_steps.proofs.Generation as Generation-t
 use Rattle.generator_steps.proofs.Generation.Laws as Generation-l
 use Rattle.protocol_types.specs.Board.{Fits}
-use Rattle.protocol.specs.Generator.{generateRefusal, generate as filled}
-use Rattle.generator_steps.specs.Generation.{begun, turned}
+use Rattle.protocol.specs.Generator.{generateRefusal, generated}
+use Rattle.generator_steps.specs.Generation.{generationBegun, generationTurned}
 use Rattle.generator.proofs.Loop.{Inv, inv-start, inv-fits, inv-within, inv-turn, inv-falls, inv-end}
 use Rattle.walks.proofs.Frame.{dieAll, blocks as blocks-of, slots, alloc-all, leave-all}
 use Rattle.walks.proofs.Opening.{at-list, slice-at, Cells, Opened, slice-opens, slice-closes}
@@ -131,10 +131,10 @@ module _ {M : Type 1} (𝓤 : URA M) (H : Heap 𝓤) (A : Atoms 𝓤) (W : Given
     begin-before : ent 𝓤 (emp 𝓤) (Begin .pre to-begin)
     begin-before = qed W [] ∵ nothing ! $ owned ! usize (Is usize) (uint-makes 𝓤 H A W w64) n _ n-is $ fjoin ! $ owned ! u32 (Is u32) (uint-makes 𝓤 H A W w32) seed _ seed-is $ fjoin ! $ owned ! Setup-t.the-row (Is Setup-t.the-row) (LL.makes Setup-t.the-type Setup-l.the-plain 𝓤 H A) setup _ setup-is $ fjoin ! $ nothing ! $ join ! $ frame ! $ nothing ! $ done !
 
-    begin-after : (w : Val) → ent 𝓤 (Begin .post to-begin w) (H .⇛ (guard 𝓤 (Told (begun setup seed n) w) (sem 𝓤 H A ftrue)))
+    begin-after : (w : Val) → ent 𝓤 (Begin .post to-begin w) (H .⇛ (guard 𝓤 (Told (generationBegun setup seed n) w) (sem 𝓤 H A ftrue)))
     begin-after =
-        told-by 𝓤 H A W (ensured 𝓤 H A begin-fn.ended (begin-fn.clauses 𝓤 H A mem run) tt (setup, (seed, (n, tt))) tt) (begun setup seed n)
-        (λ r. exE 𝓤 _ (λ ws. snd∗ 𝓤 (sem 𝓤 H A (lasts begin-fn.ended tt (setup, (seed, (n, tt))) ws)) (fact 𝓤 (r ≡ begun setup seed n))))
+        told-by 𝓤 H A W (ensured 𝓤 H A begin-fn.ended (begin-fn.clauses 𝓤 H A mem run) tt (setup, (seed, (n, tt))) tt) (generationBegun setup seed n)
+        (λ r. exE 𝓤 _ (λ ws. snd∗ 𝓤 (sem 𝓤 H A (lasts begin-fn.ended tt (setup, (seed, (n, tt))) ws)) (fact 𝓤 (r ≡ generationBegun setup seed n))))
 
   module _ (setup : Setup) (d : Generation) (n : ℕ) (setup-is : Is Setup-t.the-row setup (LL.vals Setup-t.the-type Setup-l.the-laws setup)) (d-is : Is Generation-t.the-row d (val d ∷ [])) (n-is : Is usize n (vint w64 n ∷ [])) (ready : Fits setup × (d .at < n)) where
     abbrev to-turn : Turn .Ghost
@@ -143,10 +143,10 @@ module _ {M : Type 1} (𝓤 : URA M) (H : Heap 𝓤) (A : Atoms 𝓤) (W : Given
     turn-before : ent 𝓤 (emp 𝓤) (Turn .pre to-turn)
     turn-before = qed W [] ∵ says ! ready $ nothing ! $ frame ! $ nothing ! $ owned ! usize (Is usize) (uint-makes 𝓤 H A W w64) n _ n-is $ fjoin ! $ owned ! Generation-t.the-row (Is Generation-t.the-row) (LL.makes Generation-t.the-type Generation-l.the-plain 𝓤 H A) d _ d-is $ fjoin ! $ owned ! Setup-t.the-row (Is Setup-t.the-row) (LL.makes Setup-t.the-type Setup-l.the-plain 𝓤 H A) setup _ setup-is $ fjoin ! $ done !
 
-    turn-after : (w : Val) → ent 𝓤 (Turn .post to-turn w) (H .⇛ (guard 𝓤 (Told (turned setup n d) w) (sem 𝓤 H A ftrue)))
+    turn-after : (w : Val) → ent 𝓤 (Turn .post to-turn w) (H .⇛ (guard 𝓤 (Told (generationTurned setup n d) w) (sem 𝓤 H A ftrue)))
     turn-after =
-        told-by 𝓤 H A W (ensured 𝓤 H A turn-fn.ended (turn-fn.clauses 𝓤 H A mem run) tt (setup, (d, (n, tt))) tt) (turned setup n d)
-        (λ r. exE 𝓤 _ (λ ws. snd∗ 𝓤 (sem 𝓤 H A (lasts turn-fn.ended tt (setup, (d, (n, tt))) ws)) (fact 𝓤 (r ≡ turned setup n d))))
+        told-by 𝓤 H A W (ensured 𝓤 H A turn-fn.ended (turn-fn.clauses 𝓤 H A mem run) tt (setup, (d, (n, tt))) tt) (generationTurned setup n d)
+        (λ r. exE 𝓤 _ (λ ws. snd∗ 𝓤 (sem 𝓤 H A (lasts turn-fn.ended tt (setup, (d, (n, tt))) ws)) (fact 𝓤 (r ≡ generationTurned setup n d))))
 
 module _ {M : Type 1} (𝓤 : URA M) (H : Heap 𝓤) (A : Atoms 𝓤) (W : Given 𝓤 H A) (mem : Memory → SProp 𝓤) (run : Routine → Fun 𝓤) (κ : Lft) (q : Share) (b o : ℕ) (γ : GName)
     (setup : Setup) (seed : ℕ) (ys : List Request) (setup-is : Is Setup-t.the-row setup (LL.vals Setup-t.the-type Setup-l.the-laws setup)) (seed-is : Is u32 seed (vint w32 seed ∷ [])) (room : Room Request-t.the-row (length ys)) where
@@ -168,7 +168,7 @@ module _ {M : Type 1} (𝓤 : URA M) (H : Heap 𝓤) (A : Atoms 𝓤) (W : Given
   abbrev Kept : Item 𝓤
   Kept = ‵ (Opened Request-t.the-row b o κ q γ ys)
 
-  finish : (r : ℕ) (l : List Request) → Is u32 r (vint w32 r ∷ []) → (r ≡ generateRefusal setup seed (length ys)) × (l ≡ filled setup seed ys) → length l ≡ length ys → ent 𝓤 (mean 𝓤 H A (‵ (Cells Request-t.the-row b o l) ⊛ Kept)) (H .⇛ (Post (vint w32 r)))
+  finish : (r : ℕ) (l : List Request) → Is u32 r (vint w32 r ∷ []) → (r ≡ generateRefusal setup seed (length ys)) × (l ≡ generated setup seed ys) → length l ≡ length ys → ent 𝓤 (mean 𝓤 H A (‵ (Cells Request-t.the-row b o l) ⊛ Kept)) (H .⇛ (Post (vint w32 r)))
   finish r l r-is e len =
       qed W (‵ (Cells Request-t.the-row b o l) ∷ Kept ∷ []) ∵ updating ! $
       use2 W (later (‵ (MutSlice (named 0) κ Request-t.the-row .own (at-list Request-t.the-row b o γ l) (sl ∷ [])) ⊛ ‵ (flft κ q))) (slice-closes Request-t.the-row b o 𝓤 H A W (named 0) κ q γ ys l room len) $ await ! tt $ split ! $
@@ -237,7 +237,7 @@ module _ {M : Type 1} (𝓤 : URA M) (H : Heap 𝓤) (A : Atoms 𝓤) (W : Given
           falls)))
         where
           next : Generation
-          next = turned setup (length ys) (x .state)
+          next = generationTurned setup (length ys) (x .state)
 
           stored : List Request
           stored = set (x .list) (x .state .at) (x .state .request)
@@ -273,11 +273,11 @@ module _ {M : Type 1} (𝓤 : URA M) (H : Heap 𝓤) (A : Atoms 𝓤) (W : Given
         assigns ! (of-opd ! (load ! (from ! (fld ! refl (stop !))) (look-in ! 5 (sub ! 1 refl (whole !))))) (from ! (stop !)) (init ! 6 refl (tt, record { fits = room .0 })) $
         use0 W (raw (Begin 𝓤 H A W mem run .pre (to-begin 𝓤 H A W mem run setup seed (length ys) setup-is seed-is (refl, room .0)))) (begin-before 𝓤 H A W mem run setup seed (length ys) setup-is seed-is (refl, room .0)) $
         calls-at ! (fmOf 𝓤 H (W .laws) 𝓣) (Begin 𝓤 H A W mem run) known-begin (to-begin 𝓤 H A W mem run setup seed (length ys) setup-is seed-is (refl, room .0)) (and-then ! (load ! (from ! (stop !)) (look ! 4 refl)) (and-then ! (load ! (from ! (stop !)) (look ! 5 refl)) (and-then ! (load ! (from ! (stop !)) (look ! 7 refl)) (no-more !)))) (λ w.
-        use1 W (later (given (Told (begun setup seed (length ys)) w) (‵ ftrue))) (begin-after 𝓤 H A W mem run setup seed (length ys) setup-is seed-is (refl, room .0) w) $ await ! tt $ learn ! (λ t. drop ! $
-        land ! (from ! (stop !)) (init ! 7 refl (LL.lawful Generation-t.the-type Generation-l.the-laws 𝓤 H A W .typed (begun setup seed (length ys)) (w ∷ []) (subst (λ (u : Val). Is Generation-t.the-row (begun setup seed (length ys)) (u ∷ [])) (sym (t .value)) (t .is)) .0)) $
+        use1 W (later (given (Told (generationBegun setup seed (length ys)) w) (‵ ftrue))) (begin-after 𝓤 H A W mem run setup seed (length ys) setup-is seed-is (refl, room .0) w) $ await ! tt $ learn ! (λ t. drop ! $
+        land ! (from ! (stop !)) (init ! 7 refl (LL.lawful Generation-t.the-type Generation-l.the-laws 𝓤 H A W .typed (generationBegun setup seed (length ys)) (w ∷ []) (subst (λ (u : Val). Is Generation-t.the-row (generationBegun setup seed (length ys)) (u ∷ [])) (sym (t .value)) (t .is)) .0)) $
         rewrite ! 7 (λ (u : Val). ‵ (fat fullShare Generation-l.mir l₅ 0 u)) (t .value) refl $
         first ! $ into-block ! $ loops ! 𝓣 (≺ setup seed ys) (wf setup seed ys) (I l₀ l₁ l₂ l₃ l₄ l₅ l₆ l₇ l₈) (λ x. turn-at l₀ l₁ l₂ l₃ l₄ l₅ l₆ l₇ l₈ x (x .state .going) refl)
-        (record { state = begun setup seed (length ys); list = ys; inv = inv-start setup seed ys; is = t .is; len = refl }))))
+        (record { state = generationBegun setup seed (length ys); list = ys; inv = inv-start setup seed ys; is = t .is; len = refl }))))
 
 module _ {M : Type 1} (𝓤 : URA M) (H : Heap 𝓤) (A : Atoms 𝓤) (W : Given 𝓤 H A) (mem : Memory → SProp 𝓤) (run : Routine → Fun 𝓤) (𝓣 : Tables 𝓤 H)
     (known-begin : Triple 𝓤 (𝓣 .C #generator_steps·begin) (Begin 𝓤 H A W mem run)) (known-turn : Triple 𝓤 (𝓣 .C #generator_steps·turn) (Turn 𝓤 H A W mem run)) where
