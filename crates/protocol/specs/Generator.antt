@@ -22,11 +22,11 @@ shiftLeft k x = x * 2 ^ k % 2 ^ 32
 abbrev pub shiftRight : ℕ → ℕ → ℕ
 shiftRight k x = x / 2 ^ k
 
--- x and x << k, bit by bit
+-- x xor (x << k)
 unfoldable pub xorLeft : ℕ → ℕ → ℕ
 xorLeft k x = bitXor x (shiftLeft k x)
 
--- x and x >> k
+-- x xor (x >> k)
 unfoldable pub xorRight : ℕ → ℕ → ℕ
 xorRight k x = bitXor x (shiftRight k x)
 
@@ -61,7 +61,7 @@ requestsDrawn s (a ∷ b ∷ c ∷ ds) = requestDrawn s a b c ∷ requestsDrawn 
 unfoldable pub workload : Setup → ℕ → ℕ → List Request
 workload s seed n = requestsDrawn s (draws seed (n * 3))
 
--- ---- the same, one request at a time
+-- ---- the same, one request at a time: the law workload-suc (proofs/Generator) says so
 
 -- the last of the three draws after x
 abbrev pub thirdDraw : ℕ → ℕ
