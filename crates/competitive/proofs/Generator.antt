@@ -1,11 +1,10 @@
 -- A generated list is taken to the end, is the same for every setup with the same N and M × p, and is the front of every longer one.
-use Prim.Native.Nat.{ℕ, _+_, _-_, _≤_}
-use mathlib.Core.Path.{_≡_, refl, sym, ap, _∙_}
+use Prim.Native.Nat.{ℕ, _+_, _-_}
+use mathlib.Core.Path.{_≡_, sym, ap, _∙_}
 use mathlib.Core.List.{List}
 use native.Mathlib.Omega.{arith}
 use lib.ListN.{length, take}
 use Rattle.protocol_types.specs.Refusals.{noRefusal}
-use Rattle.protocol_types.specs.Board.{variables}
 use Rattle.protocol.specs.Tables.{fresh}
 use Rattle.protocol.specs.Accounts.{freshAccount}
 use Rattle.protocol.specs.Engines.{answered, run}

@@ -9,18 +9,17 @@ use native.Mathlib.Nat.{mul-suc, suc-mul, one-le-mul, zero-div}
 use lib.ListN.{length, set, take, drop, replicate, length-replicate, length-set}
 use lib.Seq.{sets, set-set, set-getD, getD-drop}
 use lib.Dec.{ltb, eqb}
-use borrow.Author.Tests.{lt-ltb, eqb-true, eq-eqb}
-use Rattle.protocol_types.specs.Lists.{at, part, zeros, tail, other}
+use borrow.Author.Tests.{lt-ltb, eqb-true}
+use Rattle.protocol_types.specs.Lists.{at, part, zeros, other}
 use Rattle.protocol_types.specs.Refusals.{noRefusal}
 use Rattle.protocol_types.specs.Board.{setupRefusal, Fits, variables, slots, slot, wordIndex, blockOf, offsetOf, fetchPrice}
 use Rattle.protocol.specs.Tables.{Tables, tables, fresh, holdsAt, holds, sharing, marked, memoryWords}
-use Rattle.protocol.specs.Soundness.{Sound}
 use Rattle.protocol.specs.Rules.{writtenBack, emptied, filled, saved, saveCycles, evicted, owner, released, fetched, obtained, fetchCycles, writeBackCycles, payer, updatedCopies, broadcast, charged, written, updateCycles}
-use Rattle.protocol_types.specs.Conditions.{Valid, AllValid, requestRefusal, requestLimit}
+use Rattle.protocol_types.specs.Conditions.{Valid, AllValid, requestLimit}
 use Rattle.protocol.specs.Requests.{served, bill}
-use Rattle.protocol.specs.Accounts.{cycles, entered, freshAccount}
-use Rattle.protocol.specs.Engines.{runFrom, run, takenFrom, takenRun, spent}
-use Rattle.protocol.specs.Runs.{runRefusal, engine}
+use Rattle.protocol.specs.Accounts.{cycles}
+use Rattle.protocol.specs.Engines.{spent}
+use Rattle.protocol.specs.Runs.{engine}
 use Rattle.protocol.specs.Rival.{Rival, rival, noCopies, keepsAt, keeps, shared, unmarked, rivalFetched, rivalDropped, rivalCompleted, completionCycles, moveRefusal, completionRefusal, Legal, costs}
 use Rattle.competitive.specs.Claims.{TightList}
 use Rattle.protocol_types.specs.declared.Setup.{Setup}
@@ -34,11 +33,7 @@ use Rattle.protocol_types.specs.declared.Entry.the-variants.{Fetch, Drop, Compl
 use Rattle.protocol_types.proofs.Laws.{Same, same, apart, same?, Under, under, over, under?, choice, other-found, at-set-same, at-set-other, at-set-zero, at-zeros}
 use Rattle.protocol_types.proofs.Board.{setup-fits, block-path, slot-lt, slot-inj}
 use Rattle.protocol.proofs.Holding.{holdsAt-true, true-holdsAt, sharing-some, payer-found, owner-found}
-use Rattle.protocol.proofs.Checked.{sound-passes, sized-passes}
-use Rattle.protocol_types.proofs.Conditions.{variable-passes, named-passes}
-use Rattle.protocol.proofs.Accounts.{is-possible}
-use Rattle.protocol.proofs.Engines.{Left, run-left}
-use Rattle.competitive.proofs.Fresh.{sound-fresh}
+use Rattle.protocol_types.proofs.Conditions.{variable-passes}
 use Rattle.competitive.proofs.Bound.{keepsAt-true, true-keepsAt}
 use Rattle.competitive.proofs.Whole.{answers-whole, leaves-whole}
 

@@ -1,7 +1,7 @@
 -- The numbers that the generator leaves are a whole list, they name the requests of the seed, and a run from fresh tables and a fresh account takes these to the end. Assumes nothing.
-use Prim.Native.Nat.{ℕ, _%_, _*_}
-use mathlib.Core.Path.{_≡_, sym, ap, _∙_}
-use mathlib.Core.Bool.{Bool, true, false, cond, true≢false}
+use Prim.Native.Nat.{ℕ, _%_}
+use mathlib.Core.Path.{_≡_, ap, _∙_}
+use mathlib.Core.Bool.{Bool, true, false, cond}
 use mathlib.Core.List.{List}
 use native.Mathlib.Omega.{arith}
 use lib.ListN.{length}
@@ -13,8 +13,6 @@ use Rattle.protocol.specs.Engines.{answered, run}
 use Rattle.protocol.specs.Runs.{engine}
 use Rattle.protocol.specs.Generator.{generateRefusal, generated}
 use Rattle.protocol_types.specs.declared.Setup.{Setup}
-use Rattle.protocol_types.specs.declared.Request.{Request}
-use Rattle.competitive.specs.Claims.{Repeatable}
 use Rattle.competitive.proofs.Generator.{repeatable}
 use Rattle.host_decoding.specs.Records.{requestWidth, whole, partialRefusal, requestsOf}
 use Rattle.host_encoding.specs.Numbers.{numbersOf}

@@ -3,7 +3,7 @@
 use Prim.Native.Nat.{ℕ, zero, suc, _+_, _*_, _/_, _%_, _^_, _≤_, _<_}
 use mathlib.Core.Path.{_≡_, refl, sym, ap, _∙_}
 use mathlib.Core.Logic.{_≢_}
-use mathlib.Core.Bool.{Bool, true, false, not, cond}
+use mathlib.Core.Bool.{Bool, true, false, not}
 use mathlib.Core.List.{List, [], _∷_, _++_}
 use native.Mathlib.Nat.{suc-mul, mod-lt, mul-mod-left, add-zero, mul-le-mul}
 use native.Mathlib.Numerals.{unary-clauses}
@@ -15,7 +15,7 @@ use lib.ListN.{length, take}
 use lib.Dec.{leb, eqb}
 use borrow.Author.Tests.{leb-true, eqb-true, eqb-false}
 use Rattle.protocol_types.specs.Lists.{Each}
-use Rattle.protocol_types.specs.Refusals.{noRefusal, tooMany, seedZero}
+use Rattle.protocol_types.specs.Refusals.{noRefusal}
 use Rattle.protocol_types.specs.Board.{setupRefusal, Fits, variables}
 use Rattle.protocol_types.specs.Conditions.{Named, Valid, AllValid}
 use Rattle.protocol.specs.Generator.{shiftLeft, xorLeft, xorRight, xorshift, draws, even, requestDrawn, workload, thirdDraw, requestAfter, generateLimit, generateRefusal}

@@ -1,6 +1,5 @@
 -- The third draw decides; there is a processor and a variable, since the setup fits.
 use Prim.Native.Nat.{_%_}
-use mathlib.Core.Path.{_≡_}
 use native.Mathlib.Omega.{arith}
 use borrow.Author.Needs.{needs}
 use borrow.Author.Tests.{eq-eqb, ne-eqb}

@@ -1,11 +1,8 @@
 -- A list that is not whole is refused; else the loop keeps what the laws of proofs/Loop.antt keep.
 use Prim.Native.Nat.{_-_}
-use mathlib.Core.Path.{_∙_, refl}
 use borrow.Author.Needs.{needs}
 use denote.Ref.{now}
 use Rattle.protocol_types.proofs.Laws.{failed, passed}
-use Rattle.protocol.specs.Generator.{generated}
-use Rattle.host_generator.specs.Numbers.{generateNumbersRefusal, generatedNumbers}
 use Rattle.host_generator.proofs.Loop.{Inv, inv-start, inv-fits, inv-within, inv-room, inv-turn, inv-falls, inv-end}
 use Rattle.host_generator.proofs.Refused.{partial-refused}
 use Rattle.host_generator.proofs.generate.Statement.{statement}
