@@ -1,4 +1,4 @@
--- A generated list is taken to the end, is the same for every setup with the same N and M × p, and is the front of every longer one.
+-- A generated list is taken to the end, since its requests are valid and few (answers-whole); that it is the same for every setup with the same N and M × p, and the front of every longer one, are laws of the workload.
 use Prim.Native.Nat.{ℕ, _+_, _-_}
 use mathlib.Core.Path.{_≡_, sym, ap, _∙_}
 use mathlib.Core.List.{List}

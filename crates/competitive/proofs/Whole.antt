@@ -1,4 +1,4 @@
--- One run from fresh tables and a fresh account takes a list of valid requests to the end, if the account has room for them.
+-- One run from fresh tables and a fresh account takes a list of valid requests to the end, if the account has room for them: no request is refused (request by request), the run is refused by 2 alone (lawful), and it leaves what run-left says.
 use Prim.Native.Nat.{ℕ, suc, _+_, _≤_, _<_}
 use mathlib.Core.Path.{_≡_, refl, ap, _∙_}
 use mathlib.Core.List.{List, [], _∷_}

@@ -1,4 +1,4 @@
--- What the demands say of whole lists of runs and of whole schedules. proofs/Demands proves it: `Demands` of every setup that is not refused, `RefusedAtOnce` of every setup.
+-- What the demands say of whole lists of runs, of whole schedules and of generated lists. proofs/Demands proves it: `Demands` of every setup that is not refused, `RefusedAtOnce` of every setup.
 use Prim.Native.Nat.{ℕ, _+_, _*_, _≤_}
 use mathlib.Core.Path.{_≡_}
 use mathlib.Core.Logic.{_≢_}
@@ -128,6 +128,8 @@ pub record RefusedAtOnce (s : Setup) : Type 0 where
   pub by-setup : setupRefusal s ≢ noRefusal → (w : State Tables) (rs : List (Run Request)) → runs (engine s) w rs ≡ w
   pub by-tables : (w : State Tables) → sized s (w .tables) && sound s (w .tables) ≡ false → (rs : List (Run Request)) → runs (engine s) w rs ≡ w
   pub by-account : (w : State Tables) → possible s (w .account) ≡ false → (rs : List (Run Request)) → runs (engine s) w rs ≡ w
+  -- a list that the generator refuses stays as it was (document 02, P2: "A refusal leaves the list untouched")
+  pub list-stays : (seed : ℕ) (lent : List Request) → generateRefusal s seed (length lent) ≢ noRefusal → generated s seed lent ≡ lent
 
 -- each demand, of one setup
 pub record Demands (s : Setup) : Type 0 where

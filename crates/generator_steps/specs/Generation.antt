@@ -8,7 +8,7 @@ use Rattle.protocol_types.specs.declared.Setup.{Setup}
 use Rattle.protocol_types.specs.declared.Operation.the-variants.{Read}
 use Rattle.generator_steps.specs.declared.Generation.{Generation}
 
--- request k of n comes next, x being the draw before its three
+-- request k of n is stored next, x being the draw before its three
 unfoldable pub generationAt : Setup → ℕ → ℕ → ℕ → Generation
 generationAt s x k n = record { going = ltb k n; at = k; «last_draw» = thirdDraw x; request = requestAfter s x; refusal = noRefusal }
 

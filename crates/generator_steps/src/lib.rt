@@ -31,7 +31,7 @@ fn next_draw(x: u32) -> u32
 }
 
 // The request of three draws.
-fn request_drawn(setup: Setup, first: u32, second: u32, third: u32) -> Request
+fn draw_request(setup: Setup, first: u32, second: u32, third: u32) -> Request
     requires { ⌜ Fits setup ⌝ }
     ensures { λ r. ⌜ r ≡ requestDrawn setup first second third ⌝ }
 {
@@ -66,7 +66,7 @@ fn generate_refusal(setup: Setup, seed: u32, count: usize) -> u32
     protocol_types::NO_REFUSAL
 }
 
-// The list where the request at `at` is drawn next, x being the draw before it.
+// The list before the request at `at` is stored, x being the draw before its three.
 fn generation_at(setup: Setup, x: u32, at: usize, count: usize) -> Generation
     requires { ⌜ Fits setup ⌝ }
     ensures { λ r. ⌜ r ≡ generationAt setup x at count ⌝ }
@@ -78,7 +78,7 @@ fn generation_at(setup: Setup, x: u32, at: usize, count: usize) -> Generation
         going: at < count,
         at: at,
         last_draw: third,
-        request: request_drawn(setup, first, second, third),
+        request: draw_request(setup, first, second, third),
         refusal: protocol_types::NO_REFUSAL,
     }
 }

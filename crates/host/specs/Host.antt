@@ -9,7 +9,7 @@ use Rattle.protocol_types.specs.declared.Account.{Account}
 use Rattle.host_numbers.specs.Numbers.{accountOf}
 use Rattle.trace_lines.specs.Trace.{Ended}
 
--- it counts the changes of the exported functions' signatures and meanings, from 1 on
+-- it counts the changes of the exported functions' signatures and meanings, and the functions that are added, from 1 on
 abbrev pub hostVersion : ℕ
 hostVersion = 3
 

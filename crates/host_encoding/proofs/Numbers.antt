@@ -8,13 +8,13 @@ use Rattle.protocol_types.specs.declared.Request.{Request}
 use Rattle.protocol_types.specs.declared.Operation.{Operation}
 use Rattle.protocol_types.specs.declared.Operation.the-variants.{Read, Write}
 use Rattle.host_decoding.specs.Records.{requestWidth, operationOf, requestOf, requestsOf}
-use Rattle.host_encoding.specs.Numbers.{operationNumber, variableNumber, valueNumber, requestNumbers, numbersOf}
+use Rattle.host_encoding.specs.Numbers.{operationNumber, variableNumber, valueNumber, requestNumbers, listNumbers}
 
-pub length-numbers : (qs : List Request) → length (numbersOf qs) ≡ length qs * requestWidth
+pub length-numbers : (qs : List Request) → length (listNumbers qs) ≡ length qs * requestWidth
 length-numbers [] = refl
 length-numbers (q ∷ qs) = omega (arith, length-numbers qs)
 
-pub numbers-append : (qs rs : List Request) → numbersOf (qs ++ rs) ≡ numbersOf qs ++ numbersOf rs
+pub numbers-append : (qs rs : List Request) → listNumbers (qs ++ rs) ≡ listNumbers qs ++ listNumbers rs
 numbers-append [] rs = refl
 numbers-append (q ∷ qs) rs = ap (λ (l : List ℕ). requestNumbers q ++ l) (numbers-append qs rs)
 
@@ -27,6 +27,12 @@ request-back : (q : Request) → requestOf (q .processor) (operationNumber (q .o
 unfolding requestOf
 request-back q = ap (λ (o : Operation). record { processor = q .processor; operation = o }) (operation-back (q .operation))
 
-pub named-back : (qs : List Request) → requestsOf (numbersOf qs) ≡ qs
+pub named-back : (qs : List Request) → requestsOf (listNumbers qs) ≡ qs
 named-back [] = refl
 named-back (q ∷ qs) = rw (request-back q, named-back qs)
+
+-- a read has operation 0 and value 0
+pub numbers-example :
+    listNumbers (record { processor = 3; operation = Read (record { 0 = 122 }) } ∷ record { processor = 2; operation = Write (record { 0 = 61 }) 746858951 } ∷ [])
+    ≡ 3 ∷ 0 ∷ 122 ∷ 0 ∷ 2 ∷ 1 ∷ 61 ∷ 746858951 ∷ []
+numbers-example = refl

@@ -24,6 +24,6 @@ abbrev pub requestNumbers : Request → List ℕ
 requestNumbers q = q .processor ∷ operationNumber (q .operation) ∷ variableNumber (q .operation) ∷ valueNumber (q .operation) ∷ []
 
 -- request after request
-abbrev pub numbersOf : List Request → List ℕ
-numbersOf [] = []
-numbersOf (q ∷ qs) = requestNumbers q ++ numbersOf qs
+abbrev pub listNumbers : List Request → List ℕ
+listNumbers [] = []
+listNumbers (q ∷ qs) = requestNumbers q ++ listNumbers qs

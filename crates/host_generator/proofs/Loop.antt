@@ -16,7 +16,7 @@ use Rattle.protocol_types.specs.declared.Request.{Request}
 use Rattle.protocol.proofs.Generator.{drawAfter, workload-zero, workload-more, length-workload}
 use Rattle.host_decoding.specs.Records.{requestWidth, whole, requestsOf}
 use Rattle.host_decoding.proofs.Decoding.{request-count}
-use Rattle.host_encoding.specs.Numbers.{requestNumbers, numbersOf}
+use Rattle.host_encoding.specs.Numbers.{requestNumbers, listNumbers}
 use Rattle.host_encoding.proofs.Numbers.{length-numbers, numbers-append}
 use Rattle.generator_steps.specs.Generation.{generationBegun, generationTurned}
 use Rattle.generator_steps.specs.declared.Generation.{Generation}
@@ -31,7 +31,7 @@ put l k q = sets l (k * requestWidth) (requestNumbers q)
 module _ (s : Setup) (seed : ℕ) (ns : List ℕ) (n : ℕ) where
   -- the numbers of the first k requests stored
   abbrev pub front : ℕ → List ℕ
-  front k = numbersOf (workload s seed k) ++ drop (k * requestWidth) ns
+  front k = listNumbers (workload s seed k) ++ drop (k * requestWidth) ns
 
   pub front-none : front 0 ≡ ns
   front-none = rw (workload-zero s seed)
@@ -39,9 +39,9 @@ module _ (s : Setup) (seed : ℕ) (ns : List ℕ) (n : ℕ) where
   pub front-more : n ≡ length (requestsOf ns) → (k : ℕ) → k < n → put (front k) k (requestAfter s (drawAfter seed k)) ≡ front (suc k)
   front-more is-n k h =
       let q : Request = requestAfter s (drawAfter seed k) in
-      let e : length (numbersOf (workload s seed k)) ≡ k * requestWidth = omega (arith, length-numbers (workload s seed k), length-workload s seed k) in
+      let e : length (listNumbers (workload s seed k)) ≡ k * requestWidth = omega (arith, length-numbers (workload s seed k), length-workload s seed k) in
       let d : suc k * requestWidth ≡ k * requestWidth + requestWidth = omega arith in
-      sets-after (numbersOf (workload s seed k)) (requestNumbers q) ns (k * requestWidth) e (omega (arith, h, is-n, request-count ns))
+      sets-after (listNumbers (workload s seed k)) (requestNumbers q) ns (k * requestWidth) e (omega (arith, h, is-n, request-count ns))
       ∙ rw (workload-more s seed k, numbers-append (workload s seed k) (q ∷ []), d)
 
   -- n is the number of requests that the numbers name
@@ -77,11 +77,11 @@ module _ (s : Setup) (seed : ℕ) (ns : List ℕ) (n : ℕ) where
 
     -- what the contract says, where the list is whole
     module _ (w : whole requestWidth ns ≡ true) where
-      front-all : front n ≡ numbersOf (workload s seed n)
+      front-all : front n ≡ listNumbers (workload s seed n)
       unfolding whole
       front-all =
           let m : length ns ≤ n * requestWidth = omega (arith, eqb-true (length ns % requestWidth) 0 w, i .is-n, request-count ns) in
-          rw (drop-of-length-le ns {i = n * requestWidth} m, append-nil (numbersOf (workload s seed n)))
+          rw (drop-of-length-le ns {i = n * requestWidth} m, append-nil (listNumbers (workload s seed n)))
 
       refusal-is : generateNumbersRefusal s seed ns ≡ generateRefusal s seed n
       unfolding generateNumbersRefusal
@@ -91,7 +91,7 @@ module _ (s : Setup) (seed : ℕ) (ns : List ℕ) (n : ℕ) where
       unfolding generatedNumbers generated
       numbers-are = rw (refusal-is, front-all, ← i .is-n) (go (eqb (generateRefusal s seed n) noRefusal))
         where
-          go : (c : Bool) → cond c (numbersOf (workload s seed n)) ns ≡ cond c (numbersOf (cond c (workload s seed n) (requestsOf ns))) ns
+          go : (c : Bool) → cond c (listNumbers (workload s seed n)) ns ≡ cond c (listNumbers (cond c (workload s seed n) (requestsOf ns))) ns
           go true = refl
           go false = refl
 

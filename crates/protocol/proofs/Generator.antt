@@ -1,4 +1,4 @@
--- Laws of the generator: its draws are numbers of 32 bits, no two numbers have one next draw, and only 0 is followed by 0; its requests one by one, their
+-- Laws of the generator: its draws are numbers of 32 bits, no two of these have one next draw, and only 0 is followed by 0; its requests one by one, their
 -- number, that a longer list begins with the shorter one, that N, M × p and the seed alone play a part, and that every request is valid.
 use Prim.Native.Nat.{ℕ, zero, suc, _+_, _*_, _/_, _%_, _^_, _≤_, _<_}
 use mathlib.Core.Path.{_≡_, refl, sym, ap, _∙_}
@@ -13,12 +13,12 @@ use lib.Pow.{shl-shr, mod-pow-add, mod-mod-pow, shr-le}
 use lib.Bits.{bitXor, xor-zero-r, xor-shr, xor-mod, xor-add-and, xor-lt}
 use lib.ListN.{length, take}
 use lib.Dec.{leb, eqb}
-use borrow.Author.Tests.{leb-true, eqb-true, eqb-false}
+use borrow.Author.Tests.{leb-true, eqb-true, eqb-false, ne-eqb}
 use Rattle.protocol_types.specs.Lists.{Each}
 use Rattle.protocol_types.specs.Refusals.{noRefusal}
 use Rattle.protocol_types.specs.Board.{setupRefusal, Fits, variables}
 use Rattle.protocol_types.specs.Conditions.{Named, Valid, AllValid}
-use Rattle.protocol.specs.Generator.{shiftLeft, xorLeft, xorRight, xorshift, draws, even, requestDrawn, workload, thirdDraw, requestAfter, generateLimit, generateRefusal}
+use Rattle.protocol.specs.Generator.{shiftLeft, xorLeft, xorRight, xorshift, draws, even, requestDrawn, workload, thirdDraw, requestAfter, generateLimit, generateRefusal, generated}
 use Rattle.protocol_types.specs.declared.Setup.{Setup}
 use Rattle.protocol_types.specs.declared.Request.{Request}
 use Rattle.protocol_types.proofs.Laws.{choice}
@@ -37,7 +37,7 @@ pub xorshift-lt : (x : ℕ) → x < 2 ^ 32 → xorshift x < 2 ^ 32
 unfolding xorshift
 xorshift-lt x h = left-lt 5 (xorRight 17 (xorLeft 13 x)) (right-lt 17 (xorLeft 13 x) (left-lt 13 x h))
 
--- ---- no two numbers have one next draw
+-- ---- no two numbers of 32 bits have one next draw
 
 -- `bitXor` with c cancels: halves by induction, the lowest digit by parity
 xor-cancel : (c a b : ℕ) → bitXor a c ≡ bitXor b c → a ≡ b
@@ -192,3 +192,9 @@ generate-passed s seed n e = go (eqb (setupRefusal s) 0) (eqb seed 0) (leb n gen
     go true false false h k l = absurd (omega (arith, simp (h, k, l) at e))
     go true true c h k l = absurd (omega (arith, simp (h, k) at e))
     go false b c h k l = absurd (eqb-false (setupRefusal s) 0 h (simp h at e))
+
+-- ---- what a refusal leaves
+
+pub generated-stays : (s : Setup) (seed : ℕ) (lent : List Request) → generateRefusal s seed (length lent) ≢ noRefusal → generated s seed lent ≡ lent
+unfolding generated
+generated-stays s seed lent refused = rw (ne-eqb (generateRefusal s seed (length lent)) noRefusal refused)

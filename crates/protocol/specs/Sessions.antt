@@ -209,8 +209,8 @@ pub data Row : Type 0 where
   -- what the pricer checks before the first entry: block numbers, held marks and dirty marks of these lengths, n entries, m requests, and the refusal
   checked : Setup → ℕ → ℕ → ℕ → ℕ → ℕ → ℕ → Row
   -- a seed and its first draws
-  drawn : ℕ → List ℕ → Row
-  -- what the generator answers to a setup and a seed, and what it leaves in a list of as many `unwritten` requests
+  seedDraws : ℕ → List ℕ → Row
+  -- a setup, a seed, the generator's refusal, and what is then in a list of this length that held `unwritten` requests
   generator : Setup → ℕ → ℕ → List Request → Row
   -- what it checks: a setup, a seed, a list of n requests, and the refusal
   generatorChecked : Setup → ℕ → ℕ → ℕ → Row
@@ -296,7 +296,7 @@ passes (tabled s t n) = tabledPasses s t n
 passes (lent w) = lentPasses w
 passes (quote w) = quotePasses w
 passes (checked s b h k n m x) = checkedPasses s (rival (replicate b 7) (replicate h 7) (replicate k 7)) n m x
-passes (drawn seed ds) = sameList (draws seed (length ds)) ds
+passes (seedDraws seed ds) = sameList (draws seed (length ds)) ds
 passes (generator s seed x qs) = generatorPasses s seed x qs
 passes (generatorChecked s seed n x) = eqb (generateRefusal s seed n) x
 passes (taken s seed n) = takenPasses s seed n
@@ -2139,13 +2139,13 @@ rows =
     ∷ checked (pricedBoard 2 2 2 5 33 1) 4 4 4 4000001 0 10
     -- ---- document 02, P2
     -- Marsaglia's seed, which is no draw
-    ∷ drawn 2463534242 (723471715 ∷ 2497366906 ∷ 2064144800 ∷ 2008045182 ∷ 3532304609 ∷ 374114282 ∷ 1350636274 ∷ 691148861 ∷ 746858951 ∷ 2653896249 ∷ 1156348781 ∷ 3149294349 ∷ 2888432806 ∷ 3826506360 ∷ 1959669526 ∷ 2495235968 ∷ 1427053829 ∷ 1666395154 ∷ [])
+    ∷ seedDraws 2463534242 (723471715 ∷ 2497366906 ∷ 2064144800 ∷ 2008045182 ∷ 3532304609 ∷ 374114282 ∷ 1350636274 ∷ 691148861 ∷ 746858951 ∷ 2653896249 ∷ 1156348781 ∷ 3149294349 ∷ 2888432806 ∷ 3826506360 ∷ 1959669526 ∷ 2495235968 ∷ 1427053829 ∷ 1666395154 ∷ [])
     -- the least seed
-    ∷ drawn 1 (270369 ∷ 67634689 ∷ 2647435461 ∷ 307599695 ∷ 2398689233 ∷ 745495504 ∷ [])
+    ∷ seedDraws 1 (270369 ∷ 67634689 ∷ 2647435461 ∷ 307599695 ∷ 2398689233 ∷ 745495504 ∷ [])
     -- the greatest
-    ∷ drawn 4294967295 (253983 ∷ 4228382207 ∷ 1958451267 ∷ 4056713434 ∷ 2049502865 ∷ 2560970988 ∷ [])
+    ∷ seedDraws 4294967295 (253983 ∷ 4228382207 ∷ 1958451267 ∷ 4056713434 ∷ 2049502865 ∷ 2560970988 ∷ [])
     -- the top bit alone: every shift left loses it
-    ∷ drawn 2147483648 (2148024320 ∷ 2299036804 ∷ 2861646152 ∷ [])
+    ∷ seedDraws 2147483648 (2148024320 ∷ 2299036804 ∷ 2861646152 ∷ [])
     -- three draws a request: processor, variable, and a read if even, else a write of the third
     ∷ generator usual 2463534242 0 (read 3 122 ∷ read 2 225 ∷ write 2 61 746858951 ∷ write 1 109 3149294349 ∷ read 2 120 ∷ read 0 5 ∷ [])
     -- a longer list begins with the shorter one
@@ -2175,6 +2175,7 @@ rows =
     -- 5: the last length let through, and the first refused
     ∷ generatorChecked usual 1 1000000 0
     ∷ generatorChecked usual 1 1000001 5
+    -- the greatest seed is let through
     ∷ generatorChecked usual 4294967295 1000000 0
     -- 1, 10 and 11 before 5
     ∷ generatorChecked (board 4 0 4 64) 1 1000001 1

@@ -47,7 +47,7 @@ pub const COMPLETION_NOT_HELD: u32 = 27;
 
 pub const REQUESTS_LEFT: u32 = 28;
 
-// The requests that an account takes, the pricer and the generator.
+// The most requests that an account or the pricer takes, and the generator makes.
 pub const REQUEST_LIMIT: u32 = 1000000;
 
 // The highest price.

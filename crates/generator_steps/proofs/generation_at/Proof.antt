@@ -11,7 +11,7 @@ returns c =
     let third′ = c .before in
     let second′ = third′ .before in
     let first′ = second′ .before in
-    rw (c .request-drawn .ensures, third′ .next-draw3 .ensures, second′ .next-draw2 .ensures, first′ .next-draw .ensures)
+    rw (c .draw-request .ensures, third′ .next-draw3 .ensures, second′ .next-draw2 .ensures, first′ .next-draw .ensures)
 
 pub generation-at-spec : {M : Type 1} → statement M
 generation-at-spec =

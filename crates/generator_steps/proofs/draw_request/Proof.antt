@@ -5,8 +5,8 @@ use borrow.Author.Needs.{needs}
 use borrow.Author.Tests.{eq-eqb, ne-eqb}
 use Rattle.protocol.specs.Generator.{requestDrawn}
 use Rattle.protocol.proofs.Generator.{some-variable}
-use Rattle.generator_steps.proofs.request_drawn.Statement.{statement}
-use Rattle.generator_steps.proofs.request_drawn.Tie as tie
+use Rattle.generator_steps.proofs.draw_request.Statement.{statement}
+use Rattle.generator_steps.proofs.draw_request.Tie as tie
 
 rem-processor : tie.Need-rem-processor
 rem-processor c = search needs
@@ -28,5 +28,5 @@ returns-2 c =
     let a = c .before .before .before .args in
     rw (c .before .variable-count .ensures, ne-eqb (a .third % 2) 0 (c .if1 .left))
 
-pub request-drawn-spec : {M : Type 1} → statement M
-request-drawn-spec = tie.close (tie.spec rem-processor (λ c κs. search needs) rem-variable returns returns-2)
+pub draw-request-spec : {M : Type 1} → statement M
+draw-request-spec = tie.close (tie.spec rem-processor (λ c κs. search needs) rem-variable returns returns-2)

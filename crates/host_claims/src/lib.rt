@@ -1,0 +1,1 @@
+// Theorems about the entries over numbers, in proofs/. There is no code.
