@@ -1,5 +1,6 @@
 #!/usr/bin/env bash
-# Times runs through the archive beside a plain engine in Rust. Needs rt and cargo. RUNS: how often each (default 15).
+# Times runs and generated lists through the archive, beside a plain engine and a plain generator in Rust. Needs rt and
+# cargo. RUNS: how often each (default 15).
 set -eu
 cd "$(dirname "$0")/.."
 rt staticlib host > /dev/null

@@ -1,4 +1,5 @@
-/* Cuzkelor for C and C++: direct-mapped snoopy caches with their bus cycles, and the price of rival schedules.
+/* Cuzkelor for C and C++: direct-mapped snoopy caches with their bus cycles, the price of rival schedules, and lists of
+ * requests drawn from a seed.
  *
  * Link libhost.a, which `rt staticlib host` writes for x86-64 Linux. It needs the C library's memory functions (today
  * memset alone) and no other library, allocates nothing, prints nothing and keeps no state. hostkit/c/example.c is a
@@ -8,8 +9,8 @@
  * What a host owes at each call:
  * - Each pointer is valid for its length, not NULL also at length 0, and aligned for its element type. A list of
  *   requests or entries is an array of uint32_t.
- * - Nothing that the callee may write (tables, values, account, out-parameters) overlaps anything else that it is
- *   passed.
+ * - Nothing that the callee may write (tables, values, account, a list to be generated, out-parameters) overlaps
+ *   anything else that it is passed.
  * - Threads: there is no global state, so calls on different buffers may go on at once. Calls that share a buffer may
  *   not, unless all of them only read it.
  * Whatever the numbers are, the call is safe and ends.
@@ -31,11 +32,12 @@ extern "C" {
 /* ---- Numbers ---- */
 
 /* The version of what the archive exports and of what it means. */
-#define CUZKELOR_VERSION 2
+#define CUZKELOR_VERSION 3
 
 /* Why something is refused: name, number, what is refused, the condition in words.
  *
- * CALL: the call as a whole. No table, no value and no account that a run adds to has changed; places and taken are 0.
+ * CALL: the call as a whole. No table, no value, no list and no account that a run adds to has changed; places and
+ * taken are 0.
  * PLACE: a request, an entry or a line, or the end of a schedule. The answer says which one, and each function what it
  * leaves then. */
 #define CUZKELOR_REFUSALS(X)                                                                                           \
@@ -43,12 +45,13 @@ extern "C" {
     X(CUZKELOR_WRONG_LENGTH, 2, CALL, "a buffer's length is not the one that the setup or the list requires")          \
     X(CUZKELOR_NO_SUCH_PROCESSOR, 3, PLACE, "no such processor")                                                       \
     X(CUZKELOR_NO_SUCH_VARIABLE, 4, PLACE, "no such variable")                                                         \
-    X(CUZKELOR_TOO_MANY, 5, CALL, "over 1,000,000 requests or 4,000,000 entries to the pricer")                        \
+    X(CUZKELOR_TOO_MANY, 5, CALL, "over 1,000,000 requests to the pricer or generator, or 4,000,000 entries")          \
     X(CUZKELOR_MALFORMED_LINE, 6, PLACE, "malformed trace line")                                                       \
     X(CUZKELOR_UNKNOWN_LABEL, 7, PLACE, "a trace label is a digit above 2")                                            \
     X(CUZKELOR_NO_SUCH_BLOCK, 8, PLACE, "no such block")                                                               \
     X(CUZKELOR_READ_BY_BROADCAST, 9, PLACE, "a read is completed by broadcast")                                        \
     X(CUZKELOR_PRICE_OUT_OF_RANGE, 10, CALL, "the fetch price or the write-back price is out of range")                \
+    X(CUZKELOR_SEED_ZERO, 11, CALL, "the seed of a generated list is 0")                                               \
     X(CUZKELOR_UNSOUND_TABLES, 20, CALL, "the tables are not sound")                                                   \
     X(CUZKELOR_IMPOSSIBLE_ACCOUNT, 21, CALL, "the account has more cycles than its requests allow")                    \
     X(CUZKELOR_ACCOUNT_FULL, 22, PLACE, "the account is already at 1,000,000 requests or more")                        \
@@ -91,6 +94,11 @@ enum cuzkelor_most {
     CUZKELOR_MOST_BLOCK_WORDS = 16,
     CUZKELOR_MOST_BLOCK_COUNT = 256,
     CUZKELOR_MOST_FETCH_PRICE = 32
+};
+
+/* The most requests of a list that is generated or that a schedule is priced for. */
+enum cuzkelor_limit {
+    CUZKELOR_MOST_REQUESTS = 1000000
 };
 
 /* The setup of every trace. */
@@ -173,7 +181,7 @@ uint32_t cuzkelor_run(uint32_t processors, uint32_t lines, uint32_t block_words,
  *
  * Checks 1, 10, 2, 5; at each fetch 3, 8, 23; at each write-back 3, 8, 24; at each drop 3, 8, 24, 25; at each
  * completion 26, then of the request 3, 4, 9, 27; at the end 28. 2 also meets a list that is no whole number of entries
- * or of requests.
+ * or of requests. 5 meets over 1,000,000 requests or 4,000,000 entries.
  *
  * No refusal: place is 0, the tables show the rival's last copies, with empty lines all 0, and cost is the schedule's
  * cycles, the sum of its entries' costs: fetch_price for a fetch, write_back_price for a write-back, 0 for a drop and
@@ -185,6 +193,21 @@ uint32_t cuzkelor_price(uint32_t processors, uint32_t lines, uint32_t block_word
                         uint32_t *held, size_t held_length, uint32_t *marks, size_t marks_length,
                         const uint32_t *entries, size_t entries_length, const uint32_t *requests,
                         size_t requests_length, size_t *place, uint32_t *cost);
+
+/* Fills a list with the requests of a seed, as many as it has room for, four numbers each: processor, operation,
+ * variable, value (of a read it is 0). They are drawn by Marsaglia's xorshift in 32 bits: the draw after x is got by
+ * x ^= x << 13, x ^= x >> 17, x ^= x << 5. The seed itself is no draw, and each request uses three draws: the first mod
+ * processors is its processor, the second mod block_words x block_count its variable, and the third makes it a read if
+ * even, else a write of that draw.
+ *
+ * So the list depends on processors, block_words x block_count, the seed and its length alone, and a longer list begins
+ * with the shorter one. Started tables and a fresh account take it to the end.
+ *
+ * Checks 1, 10, 2, 11, 5; a refusal leaves the list untouched. 2 meets only a list that is no whole number of requests,
+ * 5 one of over 1,000,000 requests. */
+uint32_t cuzkelor_generate(uint32_t processors, uint32_t lines, uint32_t block_words, uint32_t block_count,
+                           uint32_t fetch_price, uint32_t write_back_price, uint32_t seed, uint32_t *requests,
+                           size_t requests_length);
 
 /* Counts a whole din trace, with 4 processors, 8 lines, 4 words in a block, 64 blocks and both prices 4. It starts the
  * tables itself, and the account is written, not added to. A line is a label of one digit, blanks or tabs, an address
@@ -424,6 +447,7 @@ static inline cuzkelor_entry cuzkelor_complete_by_broadcast(void) {
 #define CUZKELOR_ACCOUNT(account)                                                                                      \
     &(account)->requests, &(account)->fetch, &(account)->write_back, &(account)->update
 #define CUZKELOR_REQUESTS(requests, count) (const uint32_t *)(const void *)(requests), CUZKELOR_REQUEST_NUMBERS *(count)
+#define CUZKELOR_LENT_REQUESTS(requests, count) (uint32_t *)(void *)(requests), CUZKELOR_REQUEST_NUMBERS *(count)
 #define CUZKELOR_ENTRIES(entries, count) (const uint32_t *)(const void *)(entries), CUZKELOR_ENTRY_NUMBERS *(count)
 
 static inline uint32_t cuzkelor_start_tables(cuzkelor_setup setup, const cuzkelor_tables *tables) {
@@ -465,6 +489,12 @@ static inline cuzkelor_price_answer cuzkelor_price_schedule(cuzkelor_setup setup
     return answer;
 }
 
+/* count requests, as cuzkelor_generate draws them: checks 1, 10, 11, 5, since 2 cannot meet a list of structs. */
+static inline uint32_t cuzkelor_generate_requests(cuzkelor_setup setup, uint32_t seed, cuzkelor_request *requests,
+                                                  size_t count) {
+    return cuzkelor_generate(CUZKELOR_SETUP(setup), seed, CUZKELOR_LENT_REQUESTS(requests, count));
+}
+
 /* Tables of the trace's setup. The account is that of the lines before a refused one. */
 static inline cuzkelor_report cuzkelor_count_din(const cuzkelor_tables *tables, const char *bytes, size_t length) {
     cuzkelor_report report;
@@ -478,6 +508,7 @@ static inline cuzkelor_report cuzkelor_count_din(const cuzkelor_tables *tables, 
 #undef CUZKELOR_TABLES
 #undef CUZKELOR_ACCOUNT
 #undef CUZKELOR_REQUESTS
+#undef CUZKELOR_LENT_REQUESTS
 #undef CUZKELOR_ENTRIES
 
 #ifdef __cplusplus

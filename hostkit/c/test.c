@@ -1,5 +1,5 @@
-/* Plays the document's sessions, also at other prices, its printed trace, a look and a schedule through the archive
- * from C or C++, and tests the header's numbers, words, lengths and ranges. */
+/* Plays the document's sessions, also at other prices, its printed trace, a look, a schedule and generated lists
+ * through the archive from C or C++, and tests the header's numbers, words, lengths and ranges. */
 #include "../cuzkelor.h"
 #include <stdbool.h>
 #include <stdio.h>
@@ -379,6 +379,104 @@ static void whole_lists(void) {
     check(price_numbers(DEAR_WRITE_BACK, 6, 4) == CUZKELOR_PRICE_OUT_OF_RANGE, "a dear write-back");
 }
 
+/* Marsaglia's seed, and the first requests that it gives on SETUP. */
+static const uint32_t KNOWN_SEED = 2463534242;
+enum { KNOWN = 6 };
+
+static void known_requests(cuzkelor_request requests[KNOWN]) {
+    requests[0] = cuzkelor_read(3, cuzkelor_make_variable(122));
+    requests[1] = cuzkelor_read(2, cuzkelor_make_variable(225));
+    requests[2] = cuzkelor_write(2, cuzkelor_make_variable(61), 746858951);
+    requests[3] = cuzkelor_write(1, cuzkelor_make_variable(109), 3149294349);
+    requests[4] = cuzkelor_read(2, cuzkelor_make_variable(120));
+    requests[5] = cuzkelor_read(0, cuzkelor_make_variable(5));
+}
+
+/* Two requests more than the longest list; what is not yet generated is bytes of 0x77. */
+static cuzkelor_request list[CUZKELOR_MOST_REQUESTS + 2];
+
+static void untouch(void) { memset(list, 0x77, sizeof list); }
+
+static bool untouched_from(size_t place) {
+    const unsigned char *bytes = (const unsigned char *)(const void *)list;
+    for (size_t k = place * sizeof list[0]; k < sizeof list; k++) {
+        if (bytes[k] != 0x77) return false;
+    }
+    return true;
+}
+
+static void a_generated_list(void) {
+    cuzkelor_request known[KNOWN];
+    known_requests(known);
+    for (size_t count = 0; count <= KNOWN; count++) {
+        untouch();
+        check(cuzkelor_generate_requests(SETUP, KNOWN_SEED, list, count) == CUZKELOR_NO_REFUSAL, "no refusal");
+        check(memcmp(list, known, count * sizeof list[0]) == 0, "the known list, or its beginning");
+        check(untouched_from(count), "nothing past its end");
+    }
+}
+
+static void generated_lists_that_depend_on_little(void) {
+    cuzkelor_setup alike = {N, 1, 2 * P, M / 2, 32, 1};
+    cuzkelor_setup more_processors = {N + 1, L, P, M, P, P}, fewer_blocks = {N, L, P, M - 1, P, P};
+    cuzkelor_request known[KNOWN];
+    known_requests(known);
+    check(cuzkelor_generate_requests(alike, KNOWN_SEED, list, KNOWN) == CUZKELOR_NO_REFUSAL, "another setup");
+    check(memcmp(list, known, sizeof known) == 0, "of as many processors and variables");
+    cuzkelor_generate_requests(more_processors, KNOWN_SEED, list, KNOWN);
+    check(memcmp(list, known, sizeof known) != 0, "of more processors");
+    cuzkelor_generate_requests(fewer_blocks, KNOWN_SEED, list, KNOWN);
+    check(memcmp(list, known, sizeof known) != 0, "of fewer variables");
+    cuzkelor_generate_requests(SETUP, KNOWN_SEED + 1, list, KNOWN);
+    check(memcmp(list, known, sizeof known) != 0, "another seed");
+}
+
+/* The refusal of a list of so many numbers, which leaves it untouched. */
+static uint32_t refused_list(cuzkelor_setup setup, uint32_t seed, size_t length) {
+    untouch();
+    uint32_t refusal = cuzkelor_generate(setup.processors, setup.lines, setup.block_words, setup.block_count,
+                                         setup.fetch_price, setup.write_back_price, seed,
+                                         (uint32_t *)(void *)list, length);
+    check(refusal != CUZKELOR_NO_REFUSAL && untouched_from(0), "refused and untouched");
+    if (length % CUZKELOR_REQUEST_NUMBERS == 0) {
+        size_t count = length / CUZKELOR_REQUEST_NUMBERS;
+        check(cuzkelor_generate_requests(setup, seed, list, count) == refusal, "the same over structs");
+        check(untouched_from(0), "untouched over structs");
+    }
+    return refusal;
+}
+
+/* In the order of the checks, with everything met that comes later. */
+static void refused_generated_lists(void) {
+    const size_t whole = CUZKELOR_REQUEST_NUMBERS * ((size_t)CUZKELOR_MOST_REQUESTS + 1);
+    for (size_t rest = 1; rest < CUZKELOR_REQUEST_NUMBERS; rest++) {
+        check(refused_list(NINE_AND_DEAR, 0, whole + rest) == CUZKELOR_SETUP_OUT_OF_RANGE, "1 comes first");
+        check(refused_list(DEAR_WRITE_BACK, 0, whole + rest) == CUZKELOR_PRICE_OUT_OF_RANGE, "then 10");
+        check(refused_list(SETUP, 0, whole + rest) == CUZKELOR_WRONG_LENGTH, "then 2, before 11 and 5");
+        check(refused_list(SETUP, KNOWN_SEED, whole + rest) == CUZKELOR_WRONG_LENGTH, "2 comes before 5");
+        check(refused_list(SETUP, KNOWN_SEED, rest) == CUZKELOR_WRONG_LENGTH, "2 of a short list");
+    }
+    check(refused_list(NINE_AND_DEAR, 0, whole) == CUZKELOR_SETUP_OUT_OF_RANGE, "1 comes before 10, 11 and 5");
+    check(refused_list(DEAR_WRITE_BACK, 0, whole) == CUZKELOR_PRICE_OUT_OF_RANGE, "10 comes before 11 and 5");
+    check(refused_list(SETUP, 0, whole) == CUZKELOR_SEED_ZERO, "11 comes before 5");
+    check(refused_list(SETUP, KNOWN_SEED, whole) == CUZKELOR_TOO_MANY, "5 comes last");
+    check(refused_list(SETUP, 0, 0) == CUZKELOR_SEED_ZERO, "11 of an empty list");
+}
+
+/* It is taken to the end, and fills the account. */
+static void the_longest_generated_list(void) {
+    static uint32_t values[CUZKELOR_MOST_REQUESTS];
+    struct host h = fresh(SETUP);
+    cuzkelor_tables tables = tables_of(&h);
+    const size_t count = CUZKELOR_MOST_REQUESTS;
+    untouch();
+    check(cuzkelor_generate_requests(SETUP, KNOWN_SEED, list, count) == CUZKELOR_NO_REFUSAL, "1,000,000 requests");
+    check(!untouched_from(count - 1) && untouched_from(count), "all of them, and nothing past their end");
+    cuzkelor_run_answer answer = cuzkelor_run_requests(SETUP, &tables, &h.account, list, count, values, count);
+    check(answer.refusal == CUZKELOR_NO_REFUSAL && answer.taken == count, "taken to the end");
+    check(h.account.requests == count, "the account is full");
+}
+
 /* A trace that is refused at once writes its out-parameters too. */
 static void a_trace_refused_at_once(void) {
     struct host h = fresh(SETUP);
@@ -392,15 +490,15 @@ static void a_trace_refused_at_once(void) {
 }
 
 static void version(void) {
-    check(cuzkelor_version() == 2 && CUZKELOR_VERSION == 2, "version 2");
+    check(cuzkelor_version() == 3 && CUZKELOR_VERSION == 3, "version 3");
     check(cuzkelor_version_matches(), "the archive belongs to the header");
 }
 
 /* The document's numbers, and those by which nothing changes. */
-static bool is_refusal(uint32_t number) { return (1 <= number && number <= 10) || (20 <= number && number <= 28); }
+static bool is_refusal(uint32_t number) { return (1 <= number && number <= 11) || (20 <= number && number <= 28); }
 
 static bool of_call(uint32_t number) {
-    return number == 1 || number == 2 || number == 5 || number == 10 || number == 20 || number == 21;
+    return number == 1 || number == 2 || number == 5 || number == 10 || number == 11 || number == 20 || number == 21;
 }
 
 static void texts(void) {
@@ -412,6 +510,7 @@ static void texts(void) {
     check(strcmp(cuzkelor_refusal_text(0), "no refusal") == 0 && !cuzkelor_refuses_call(0), "0");
     check(strcmp(cuzkelor_refusal_text(CUZKELOR_DROP_OF_MARKED), "a drop of a marked block") == 0, "25");
     check(CUZKELOR_SETUP_OUT_OF_RANGE == 1 && CUZKELOR_PRICE_OUT_OF_RANGE == 10, "names of 1 and 10");
+    check(CUZKELOR_TOO_MANY == 5 && CUZKELOR_SEED_ZERO == 11, "names of 5 and 11");
     check(CUZKELOR_UNSOUND_TABLES == 20 && CUZKELOR_REQUESTS_LEFT == 28, "names of 20 and 28");
 }
 
@@ -465,6 +564,10 @@ int main(void) {
                  {"a look", a_look},
                  {"a schedule", a_schedule},
                  {"whole lists", whole_lists},
+                 {"a generated list", a_generated_list},
+                 {"generated lists that depend on little", generated_lists_that_depend_on_little},
+                 {"refused generated lists", refused_generated_lists},
+                 {"the longest generated list", the_longest_generated_list},
                  {"a trace refused at once", a_trace_refused_at_once},
                  {"version", version},
                  {"texts", texts},

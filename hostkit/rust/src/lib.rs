@@ -1,5 +1,6 @@
-//! Cuzkelor for Rust: direct-mapped snoopy caches with their bus cycles, and the price of rival
-//! schedules. Safe functions over the proved archive `libhost.a`.
+//! Cuzkelor for Rust: direct-mapped snoopy caches with their bus cycles, the price of rival
+//! schedules, and lists of requests drawn from a seed. Safe functions over the proved archive
+//! `libhost.a`.
 //!
 //! ```
 //! use cuzkelor::{price, Block, Board, Entry, Request, RivalTables, Variable, TRACE_SETUP};
@@ -20,8 +21,8 @@
 //! ```
 //!
 //! A [`Board`] holds what runs change. The functions [`start`], [`run`], [`look`], [`price`] and
-//! [`count_trace`] take tables that the host keeps itself, and check them; [`raw`] has the archive's
-//! own functions.
+//! [`count_trace`] take tables that the host keeps itself, and check them. [`generate`] and
+//! [`generate_into`] draw requests from a seed. [`raw`] has the archive's own functions.
 //!
 //! Threads: the archive has no state, so calls on different boards and tables may go on at once.
 //!
@@ -42,6 +43,7 @@ mod archive;
 mod board;
 mod engine;
 mod errors;
+mod generator;
 mod lists;
 pub mod raw;
 mod refusal;
@@ -54,6 +56,7 @@ pub use account::Account;
 pub use board::Board;
 pub use engine::{look, run, start};
 pub use errors::{PriceError, RunError, TraceError};
+pub use generator::{generate, generate_into};
 pub use lists::{Action, Entry, Operation, Request};
 pub use refusal::Refusal;
 pub use rival::price;

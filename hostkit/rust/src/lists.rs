@@ -70,6 +70,13 @@ pub enum Action {
 }
 
 impl Request {
+    /// How many numbers a request is.
+    const COUNT: usize = {
+        let count = CUZKELOR_REQUEST_NUMBERS as usize;
+        assert!(size_of::<Request>() == count * size_of::<u32>());
+        count
+    };
+
     /// A processor reads a variable.
     #[must_use]
     pub const fn read(processor: u32, variable: Variable) -> Request {
@@ -124,10 +131,15 @@ impl Request {
     /// ```
     #[must_use]
     pub const fn numbers(requests: &[Request]) -> &[u32] {
-        const COUNT: usize = CUZKELOR_REQUEST_NUMBERS as usize;
-        const { assert!(size_of::<Request>() == COUNT * size_of::<u32>()) };
         // SAFETY: a request is that many numbers and nothing else, in the order of its fields.
-        unsafe { slice::from_raw_parts(requests.as_ptr().cast(), COUNT * requests.len()) }
+        unsafe { slice::from_raw_parts(requests.as_ptr().cast(), Request::COUNT * requests.len()) }
+    }
+
+    /// The same to be written.
+    pub(crate) fn numbers_mut(requests: &mut [Request]) -> &mut [u32] {
+        let length = Request::COUNT * requests.len();
+        // SAFETY: as in `numbers`, and any numbers are a request.
+        unsafe { slice::from_raw_parts_mut(requests.as_mut_ptr().cast(), length) }
     }
 }
 

@@ -1,16 +1,16 @@
 //! The refusals' numbers and words, the errors' texts, the version, and lists read back.
 
 use cuzkelor::{
-    count_trace, price, raw, run, Account, Action, Block, Board, Entry, Operation, Refusal,
-    Request, RivalTables, Setup, Tables, Variable, TRACE_SETUP,
+    count_trace, generate, price, raw, run, Account, Action, Block, Board, Entry, Operation,
+    Refusal, Request, RivalTables, Setup, Tables, Variable, TRACE_SETUP,
 };
 use std::error::Error;
 
 /// The numbers of the document, and those that refuse the call as a whole.
-const NUMBERS: [u32; 19] = [
-    1, 2, 3, 4, 5, 6, 7, 8, 9, 10, 20, 21, 22, 23, 24, 25, 26, 27, 28,
+const NUMBERS: [u32; 20] = [
+    1, 2, 3, 4, 5, 6, 7, 8, 9, 10, 11, 20, 21, 22, 23, 24, 25, 26, 27, 28,
 ];
-const OF_CALLS: [u32; 6] = [1, 2, 5, 10, 20, 21];
+const OF_CALLS: [u32; 7] = [1, 2, 5, 10, 11, 20, 21];
 
 fn text(error: impl Error + Send + Sync + 'static) -> String {
     Box::<dyn Error + Send + Sync>::from(error).to_string()
@@ -83,7 +83,20 @@ fn price_errors() {
     );
     assert_eq!(
         refused(&[], &vec![read; 1_000_001]),
-        "refused by 5: over 1,000,000 requests or 4,000,000 entries to the pricer"
+        "refused by 5: over 1,000,000 requests to the pricer or generator, or 4,000,000 entries"
+    );
+}
+
+#[test]
+fn generator_errors() {
+    let refused = |seed, count| text(generate(TRACE_SETUP, seed, count).expect_err("refused"));
+    assert_eq!(
+        refused(0, 1_000_001),
+        "refused by 11: the seed of a generated list is 0"
+    );
+    assert_eq!(
+        refused(1, 1_000_001),
+        "refused by 5: over 1,000,000 requests to the pricer or generator, or 4,000,000 entries"
     );
 }
 
@@ -103,7 +116,7 @@ fn trace_errors() {
 fn version() {
     // SAFETY: takes nothing.
     let archive = unsafe { raw::cuzkelor_version() };
-    assert_eq!((archive, raw::CUZKELOR_VERSION), (2, 2));
+    assert_eq!((archive, raw::CUZKELOR_VERSION), (3, 3));
 }
 
 #[test]

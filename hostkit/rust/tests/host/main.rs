@@ -1,10 +1,12 @@
-//! The archive beside a model coded separately from the document: random lists of runs, schedules
-//! and traces, every answer and every lent buffer compared, and the document's own cases.
+//! The archive beside a model coded separately from the document: random lists of runs, schedules,
+//! traces and generated lists, every answer and every lent buffer compared, and the document's own
+//! cases.
 
 mod boards;
 mod bound;
 mod damage;
 mod draw;
+mod generated;
 mod lend;
 mod looks;
 mod model;

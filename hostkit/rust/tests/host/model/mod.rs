@@ -4,11 +4,13 @@
 mod din;
 mod engine;
 mod facts;
+mod generator;
 mod rival;
 
 pub use din::{count, Counted};
 pub use engine::{Caches, Ledger, Outcome};
 pub use facts::{read, rival_shown, shown, sizes};
+pub use generator::{draws, generate};
 pub use rival::{price, Move, Rival};
 
 /// A setup: N processors, L lines, p words in a block, M blocks, a fetch at f and a write-back at g
