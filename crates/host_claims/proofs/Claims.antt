@@ -1,5 +1,5 @@
 -- The numbers that the generator leaves are those of the seed's requests, so that what `repeatable` says of requests holds of them. Assumes nothing.
-use Prim.Native.Nat.{ℕ, zero, suc, _*_, _/_, _%_, _≤_}
+use Prim.Native.Nat.{ℕ, zero, suc, _*_, _%_}
 use mathlib.Core.Path.{_≡_, refl, sym, ap, _∙_}
 use mathlib.Core.Bool.{Bool, true, false, cond}
 use mathlib.Core.List.{List, [], _∷_, _++_}
@@ -7,10 +7,9 @@ use native.Mathlib.Omega.{arith}
 use native.Mathlib.Nat.{suc-mul}
 use native.Mathlib.Numerals.{unary-clauses}
 use lib.ListN.{length, take}
-use lib.Dec.{eqb}
 use borrow.Author.Tests.{eqb-true, eq-eqb}
 use Rattle.protocol_types.specs.Refusals.{noRefusal}
-use Rattle.protocol.specs.Generator.{workload, generateRefusal, generated}
+use Rattle.protocol.specs.Generator.{generateRefusal, generated}
 use Rattle.protocol_types.specs.declared.Setup.{Setup}
 use Rattle.protocol_types.specs.declared.Request.{Request}
 use Rattle.competitive.proofs.Generator.{generated-is, repeatable}
@@ -26,7 +25,7 @@ use Rattle.host_claims.specs.Claims.{NumbersRepeatable}
 -- the numbers of a list's front
 numbers-front : (qs : List Request) (k : ℕ) → take (k * requestWidth) (listNumbers qs) ≡ listNumbers (take k qs)
 numbers-front qs zero = refl
-numbers-front [] (suc k) = refl
+numbers-front [] (suc k) = simp (suc-mul, unary-clauses)
 numbers-front (q ∷ qs) (suc k) =
     simp (suc-mul, unary-clauses) (ap (λ (l : List ℕ). requestNumbers q ++ l) (numbers-front qs k))
 
