@@ -3,7 +3,7 @@
 use Prim.Native.Nat.{ℕ, zero, suc, _+_, _*_, _/_, _%_, _^_, _≤_, _<_}
 use mathlib.Core.Path.{_≡_, refl, sym, ap, _∙_}
 use mathlib.Core.Logic.{_≢_}
-use mathlib.Core.Bool.{Bool, true, false, not}
+use mathlib.Core.Bool.{Bool, true, false, not, cond}
 use mathlib.Core.List.{List, [], _∷_, _++_}
 use native.Mathlib.Nat.{suc-mul, mod-lt, mul-mod-left, add-zero, mul-le-mul}
 use native.Mathlib.Numerals.{unary-clauses}
@@ -197,4 +197,5 @@ generate-passed s seed n e = go (eqb (setupRefusal s) 0) (eqb seed 0) (leb n gen
 
 pub generated-stays : (s : Setup) (seed : ℕ) (lent : List Request) → generateRefusal s seed (length lent) ≢ noRefusal → generated s seed lent ≡ lent
 unfolding generated
-generated-stays s seed lent refused = rw (ne-eqb (generateRefusal s seed (length lent)) noRefusal refused)
+generated-stays s seed lent refused =
+    ap (λ (c : Bool). cond c (workload s seed (length lent)) lent) (ne-eqb (generateRefusal s seed (length lent)) noRefusal refused)
