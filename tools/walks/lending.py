@@ -6,12 +6,16 @@
         Ran { answer: answer, account: account }
     }
 
-The callee takes the parameters in their order: a buffer as it came in, which is not needed any more; a struct by value or by `&mut`; an array by `&`, as a slice.
-What is returned is what the callee returns, or a struct of that and of the structs that were lent.
+The callee takes the parameters in their order: a buffer as it came in, which is not needed any more; a number or a struct by value; a struct by `&mut`; an array by `&` or `&mut`, as a slice.
+What is returned is what the callee returns, or a struct of that and of what was lent by `&mut`.
 """
 from parts import *
 from mir import function, items, place, callee
 from call import Callee
+
+
+def spaced(text):
+    return text + ' ' if text else ''
 
 
 class Entry:
@@ -60,12 +64,12 @@ class Array:
 
 class Lending:
     """root, here, name: the repository, and the function's crate and name. kit: the crate of Frame, Opening and Lending. entry: the Entry.
-    params: (name, Kind | Slice | Array). refs: the names of those that are lent by &mut.
+    params: (name, Kind | Slice | Array). refs: the names of those that are lent by &mut. laws: the file of this crate that has array-lends and array-returns, if an array is.
     answer: the Kind of what the callee returns. result: the Kind of what the function returns. Where that is another one: made, the struct's text, with
-    {answer} and {NAME} for the last value of a lent struct, and fields, which of these each field is.
-    says: what both contracts say, with {answer}, and {NAME} for the last value of a buffer or a lent struct. cites: what it names (parts.spec_uses)."""
+    {answer} and {NAME} for the last value of what is lent by &mut, and fields, which of these each field is.
+    says: what both contracts say, with {answer}, and {NAME} for the last value of a buffer or of what is lent by &mut. cites: what it names (parts.spec_uses)."""
 
-    made = fields = None
+    made = fields = laws = None
 
     def __init__(self, **given):
         self.__dict__.update(given)
@@ -74,6 +78,8 @@ class Lending:
         self.slices = [n for n, k in self.params if isinstance(k, Slice)]
         self.plain = [(n, k) for n, k in self.params if not isinstance(k, Slice)]
         self.arrays = [n for n, k in self.params if isinstance(k, Array)]
+        self.shared = [n for n in self.arrays if n not in self.refs]
+        self.structs = [n for n in self.refs if n not in self.arrays]
         self.locals = [n for n, k in self.params if n in self.refs or n in self.arrays]
         self.lent = [n for n, k in self.params if n in self.slices or n in self.locals]
         self.life = {n: i for i, n in enumerate(self.slices)}
@@ -81,7 +87,7 @@ class Lending:
         # a key's numbers: the lifetime of each local and its ghost name
         self.number = {n: (2 * i, 2 * i + 1) for i, n in enumerate(self.locals)}
         # the numbers of what is had after the call: the answer, and the last values
-        self.last = {n: i + 1 for i, n in enumerate(n for n in self.lent if n not in self.arrays)}
+        self.last = {n: i + 1 for i, n in enumerate(n for n in self.lent if n not in self.shared)}
         self.last['answer'] = 0
 
     # ---- small texts
@@ -97,20 +103,23 @@ class Lending:
         """The machine value of a reference that is passed to the callee."""
         if n in self.slices:
             return '(slice-at %s %s %s)' % (self.row(n), self.at(n), n)
-        return '(vptr l-%s 0)' % n if n in self.refs else '(sliceVal (l-%s, 0) %d)' % (n, self.kind[n].count)
+        return '(vptr l-%s 0)' % n if n in self.structs else '(sliceVal (l-%s, 0) %d)' % (n, self.kind[n].count)
 
     def referred(self, n, γ):
-        return '(at-%s %s %s %s %s)' % ('value' if n in self.refs else 'list', self.row(n), self.at(n), γ, n)
+        return '(at-%s %s %s %s %s)' % ('value' if n in self.structs else 'list', self.row(n), self.at(n), γ, n)
 
     def slice_own(self, n):
         return '‵ (MutSlice (named 0) κ-%s %s .own %s (%s ∷ []))' % (n, self.row(n), self.referred(n, 'γ-' + n), self.pointer(n))
 
     def local_own(self, n, ν, δ):
-        return '‵ (%s (named 0) %s %s .own %s (%s ∷ []))' % ('MutRef' if n in self.refs else 'ShrSlice', ν, self.row(n), self.referred(n, δ), self.pointer(n))
+        former = 'MutRef' if n in self.structs else 'ShrSlice' if n in self.shared else 'MutSlice'
+        return '‵ (%s (named 0) %s %s .own %s (%s ∷ []))' % (former, ν, self.row(n), self.referred(n, δ), self.pointer(n))
 
     def loan(self, n, ν, δ):
-        if n in self.refs:
+        if n in self.structs:
             return '‵ (RefLoan %s %s %s %s)' % (self.row(n), self.at(n), ν, δ)
+        if n in self.refs:
+            return '‵ (Loan %s %s %s %s %d)' % (self.row(n), self.at(n), ν, δ, self.kind[n].count)
         return '‵ (Shared %s %s %s %s)' % (self.row(n), self.at(n), ν, n)
 
     def cell(self, n, x):
@@ -128,6 +137,8 @@ class Lending:
 
     def known(self):
         """The buffers' lifetimes, shares, names and places, as parameters."""
+        if not self.slices:
+            return ''
         return '(%s : Lft) (%s : Share) (%s : GName) (%s : ℕ)' % (
             ' '.join('κ-' + n for n in self.slices), ' '.join('q-' + n for n in self.slices), ' '.join('γ-' + n for n in self.slices), ' '.join(at(n) for n in self.slices))
 
@@ -146,22 +157,29 @@ class Lending:
         G, I = self.G, ' ' * 4
         t = '-- The call of `%s` by a caller that lends its own locals: each is lent for a lifetime of its own and stands again as a cell after the call. The buffers are passed on at their own lifetimes, shares and names, and what is had of them after the call is what says their last values.\n' % self.entry.name
         t += '--     before, after       what stands before the call and after it\n-- Assumes `Given`.\n'
-        t += HEAD + kind_uses(self.here, self.kinds() + [self.answer]) + spec_uses(self.here, self.cites) + kit_uses(self.here, self.kit)
+        t += HEAD + kind_uses(self.here, self.kinds() + [self.answer]) + spec_uses(self.here, self.cites) + kit_uses(self.here, self.kit) + self.law_uses()
         t += 'use %s.%s as %s\n\n' % (proofs(self.here, self.entry.crate), self.entry.name, G)
         t += 'module _ {M : Type 1} (𝓤 : URA M) (H : Heap 𝓤) (A : Atoms 𝓤) (mem : Memory → SProp 𝓤) (run″ : Routine → Fun 𝓤) where\n'
         t += '  abbrev pub Called : Contract 𝓤\n  Called = tripleOf 𝓤 H A %s.signature (%s.spec 𝓤 H A mem run″)\n\n' % (G, G)
-        t += '  module _ (W : Given 𝓤 H A) %s (%s : ℕ)\n      %s where\n' % (self.known(), ' '.join('l-' + n for n in self.locals), self.values())
+        t += '  module _ (W : Given 𝓤 H A) %s(%s : ℕ)\n      %s where\n' % (spaced(self.known()), ' '.join('l-' + n for n in self.locals), self.values())
         t += I + '-- the lifetime and the ghost name of each local that is lent\n' + I + 'abbrev pub Key : Type 0\n' + I + 'Key = %s\n\n' % ' × '.join('ℕ × GName' for n in self.locals)
         self.κs = nest('κ-' + n if n in self.slices else 'k .%d ∷ []' % self.number[n][0] for n in self.lent)
         qs = nest('q-' + n if n in self.slices else 'fullShare' for n in self.lent)
         args = nest(self.referred(n, 'γ-' + n if n in self.slices else '(k .%d)' % self.number[n][1]) if n in self.lent else n for n, k in self.params)
         vals = nest('%s ∷ []' % self.pointer(n) if n in self.lent else k.vals(n) for n, k in self.params)
         t += I + 'abbrev pub to : Key → Called .Ghost\n' + I + 'to k = ((%s, %s, tt, %s, %s), tt)\n\n' % (self.κs, qs, args, vals)
-        t += I + '-- what the caller has of the buffers and of its locals\n' + I + 'abbrev pub Passed : Item 𝓤\n' + I + 'Passed = %s\n\n' % chain([self.token(n) for n in self.slices] + [self.slice_own(n) for n in self.slices])
+        t += I + '-- what the caller has of the buffers and of its locals\n' + I + 'abbrev pub Passed : Item 𝓤\n' + I + 'Passed = %s\n\n' % self.passed()
         t += I + 'abbrev pub Cells-before : Item 𝓤\n' + I + 'Cells-before = %s\n\n' % chain(self.cell(n, n) for n in self.locals)
         t += I + 'abbrev pub Out : Key → Item 𝓤\n' + I + 'Out k = %s\n\n' % chain(self.loan(n, '(k .%d ∷ [])' % self.number[n][0], '(k .%d)' % self.number[n][1]) for n in self.locals)
         t += self.before(I) + self.told(I) + self.after(I)
         return prune(t)
+
+    def law_uses(self):
+        return 'use %s.%s.{array-lends, array-returns, field-value, field-is}\n' % (proofs(self.here, self.here), self.laws) if self.laws else ''
+
+    def passed(self):
+        """What comes in of the buffers, entry by entry."""
+        return chain([self.token(n) for n in self.slices] + [self.slice_own(n) for n in self.slices] or ['‵ ftrue'])
 
     def kinds(self):
         return [k.element if isinstance(k, Array) else k for n, k in self.plain]
@@ -189,22 +207,26 @@ class Lending:
         # the locals are lent
         t += J + 'pub before : ent 𝓤 (sep 𝓤 (mean 𝓤 H A Passed) (mean 𝓤 H A Cells-before)) (mean 𝓤 H A (later (some (λ (k : Key). raw (Called .pre (to k)) ⊛ Out k))))\n'
         cx = Context(['passed', 'cells'])
-        b = 'updating ! $ ' + cx.split(['tok·' + n for n in self.slices] + ['own·' + n for n in self.slices]) + cx.move('cells') + cx.split(['c·' + n for n in self.locals])
+        b = 'updating ! $ ' + cx.split(['tok·' + n for n in self.slices] + ['own·' + n for n in self.slices] or ['true']) + cx.move('cells') + cx.split(['c·' + n for n in self.locals])
         for n in self.locals:
             k = self.kind[n]
             b += '\n' + J + '    lft-new ! tt (λ ν-%s. ' % n
             cx.items.insert(0, 'tok·' + n)
             b += cx.move('c·' + n)
             own, out = self.local_own(n, '(ν-%s ∷ [])' % n, 'δ'), self.loan(n, '(ν-%s ∷ [])' % n, 'δ')
-            law = 'ref-lends %s %s 𝓤 H A W %s' % (k.row, self.at(n), k.makes()) if n in self.refs else 'array-shares %s %d %s 𝓤 H A W tt %s' % (self.row(n), k.count, self.at(n), k.element.makes())
+            if n in self.structs:
+                law, room = 'ref-lends %s %s 𝓤 H A W %s' % (k.row, self.at(n), k.makes()), ''
+            else:
+                law = 'array-%s %s %d %s 𝓤 H A W tt %s' % ('shares' if n in self.shared else 'lends', self.row(n), k.count, self.at(n), k.element.makes())
+                room = ' (lit< tt, lit< tt)'
             b += 'use1 W (later (some (λ (δ : GName). %s ⊛ %s))) (%s (named 0) (ν-%s ∷ []) %s %s %s-is%s) $ await ! tt $ pick ! (λ δ-%s. split ! $ ' % (
-                own, out, law, n, n, k.vals(n), n, '' if n in self.refs else ' (lit< tt, lit< tt)', n)
+                own, out, law, n, n, k.vals(n), n, room, n)
             cx.front(1, ['own·' + n, 'lent·' + n])
         key = '(%s)' % ', '.join('ν-%s, δ-%s' % (n, n) for n in self.locals)
         b += '\n' + J + '    at-once ! $ show ! (λ (k : Key). sep 𝓤 (Called .pre (to k)) (mean 𝓤 H A (Out k))) %s $ ' % key
         b += cx.group(['tok·' + n for n in self.lent] + ['own·' + n for n in self.lent], 'pre') + 'use1 W (raw (Called .pre (to %s))) (asked %s) $ frame ! $ ' % (key, key)
         cx.front(1, [])
-        b += cx.move(*['lent·' + n for n in self.locals]) + 'done !' + ')' * (2 * len(self.locals))
+        b += (cx.move if self.slices else cx.keep)(*['lent·' + n for n in self.locals]) + 'done !' + ')' * (2 * len(self.locals))
         return t + J + 'before =\n' + J + '    qed W (Passed ∷ Cells-before ∷ []) ∵ %s\n\n' % b
 
     def told(self, I):
@@ -217,7 +239,7 @@ class Lending:
         t += ''.join(I + '  pub %s-len : length %s ≡ length %s\n' % (n, self.final(n), n) for n in self.slices)
         t += I + '  pub so : %s\n\n' % self.said(self.final)
         t += I + 'abbrev pub Left : End → Item 𝓤\n' + I + 'Left z = %s\n\n' % chain(
-            [self.token(n) for n in self.slices] + ['‵ (finally %s γ-%s %s)' % (self.row(n), n, self.final(n)) for n in self.slices])
+            [self.token(n) for n in self.slices] + ['‵ (finally %s γ-%s %s)' % (self.row(n), n, self.final(n)) for n in self.slices] or ['‵ ftrue'])
         t += I + 'abbrev pub Cells-after : End → Item 𝓤\n' + I + 'Cells-after z = %s\n\n' % chain(self.cell(n, self.final(n) if n in self.refs else n) for n in self.locals)
         return t
 
@@ -247,10 +269,10 @@ class Lending:
         seen = 0
         for n, k in self.params:
             b += 'fsplit ! $ '
-            if n in self.slices:
+            if n in self.slices + self.arrays and n in self.last:
                 b += 'fsplit ! $ '
                 cx.front(1, ['fin·' + n, 'eq·' + n, 'lasts'])
-            elif n in self.refs:
+            elif n in self.structs:
                 cx.front(1, ['fin·' + n, 'lasts'])
             else:
                 b += 'drop ! $ '
@@ -260,7 +282,7 @@ class Lending:
                 break
             b += cx.move('lasts')
         b += '\n' + J
-        for n in self.slices:
+        for n in self.slices + [n for n in self.arrays if n in self.last]:
             b += cx.move('eq·' + n) + 'feqL ! (λ len-%s. ' % n
             cx.front(1, [])
             par += 1
@@ -275,8 +297,13 @@ class Lending:
             b += '\n' + J + cx.move('tok·' + n) + 'lft-end ! tt $ '
             cx.front(1, ['dead·' + n])
             if n in self.refs:
-                b += cx.move('dead·' + n, 'lent·' + n, 'fin·' + n) + 'use3 W (later (given (%s) (%s ⊛ ‵ (fdead %s)))) (ref-returns %s %s 𝓤 H A W %s %s %s (k .%d) %s) $ await ! tt $ learn ! (λ %s-is. split ! $ ' % (
-                    k.is_(zs[n]), self.cell(n, zs[n]), ν, k.row, self.at(n), k.spells(), k.tells(), ν, self.number[n][1], zs[n], n)
+                of, told = k, ''
+                law = 'ref-returns %s' % k.row
+                if n in self.arrays:
+                    of, told = k.element, ' (len-%s ∙ %s-count)' % (n, n)
+                    law = 'array-returns %s %d' % (of.row, k.count)
+                b += cx.move('dead·' + n, 'lent·' + n, 'fin·' + n) + 'use3 W (later (given (%s) (%s ⊛ ‵ (fdead %s)))) (%s %s 𝓤 H A W %s %s %s (k .%d) %s%s) $ await ! tt $ learn ! (λ %s-is. split ! $ ' % (
+                    k.is_(zs[n]), self.cell(n, zs[n]), ν, law, self.at(n), of.spells(), of.tells(), ν, self.number[n][1], zs[n], told, n)
                 cx.front(3, ['c·' + n, 'dead·' + n])
                 par += 1
             else:
@@ -284,13 +311,13 @@ class Lending:
                 b += cx.move('dead·' + n, 'lent·' + n) + 'use2 W (later (%s ⊛ ‵ (fdead %s))) (array-unshares %s %d %s 𝓤 H A W %s %s %s %s %s-count) $ await ! tt $ split ! $ ' % (
                     self.cell(n, n), ν, e.row, k.count, self.at(n), e.spells(), e.tells(), ν, n, n)
                 cx.front(2, ['c·' + n, 'dead·' + n])
-        tells = '%s.tells %s r (w ∷ []) is' % (R.LL, R.tl)
+        tells = 'uint-tells %s r (w ∷ []) is' % R.w if R.num else '%s.tells %s r (w ∷ []) is' % (R.LL, R.tl)
         told = 'value = ap only (%s); is = subst (Is %s r) (%s) is; so = e' % (tells, R.row, tells)
         told += ''.join('; %s-is = %s-is' % (n, n) for n in self.refs) + ''.join('; %s-len = len-%s' % (n, n) for n in self.slices)
         z = '(%s)' % ', '.join(['r'] + [zs[n] for n in self.lent if n in self.last])
         b += '\n' + J + 'at-once ! $ show ! (λ (z : End). guard 𝓤 (Told w z) (mean 𝓤 H A (Left z ⊛ Cells-after z))) %s $ check ! (record { %s }) $ ' % (z, told)
         b += cx.keep(*(['tok·' + n for n in self.slices] + ['fin·' + n for n in self.slices] + ['c·' + n for n in self.locals]))
-        b += 'group ! %d $ done !' % (2 * len(self.slices)) + ')' * par
+        b += ('group ! %d $ done !' % (2 * len(self.slices)) if self.slices else 'nothing ! $ done !') + ')' * par
         return t + I + 'after %s k w =\n' % ' '.join(n + '-count' for n in self.arrays) + I + '    qed W (raw (Called .post (to k) w) ∷ Out k ∷ []) ∵ ' + b + '\n'
 
     # ---- the walk
@@ -306,7 +333,7 @@ class Lending:
         here, own = self.here, '%s.%s' % (proofs(self.here, self.here), self.name)
         t = '-- `%s::%s` meets its contract: a walk of its MIR, by hand. It knows of `%s` only that it meets its contract.\n' % (here, self.name, self.entry.name)
         t += '-- The buffers are passed on for good. The locals are lent for the call, and freed at the end.\n-- The context is [_0; …; _%d; that the locals die; what came in]. Assumes nothing.\n' % (self.count - 1)
-        t += 'mod %s\n' % self.mod + HEAD + kind_uses(here, self.kinds() + [self.answer, self.result]) + spec_uses(here, self.cites) + kit_uses(here, self.kit)
+        t += 'mod %s\n' % self.mod + HEAD + kind_uses(here, self.kinds() + [self.answer, self.result]) + spec_uses(here, self.cites) + kit_uses(here, self.kit) + self.law_uses()
         t += 'use %s.Proof.%s as %s\n' % (own, self.mod, self.mod) + self.entry.uses()
         return t + 'use %s.Key.{name as #%s·%s}\nuse %s as %s\nuse %s.Statement as stated\nuse %s.Code as code\n\n' % (own, here, self.F, own, self.F, own, own)
 
@@ -316,7 +343,7 @@ class Lending:
         self.goes = nest('goes-gave-slice 𝓤 H A W %d %d tt (plain (λ _. %s))' % (many, self.life[n], k.row) if n in self.slices else 'goes-none 𝓤 H A W %d (λ _. %s) yes (λ κs x f. refl)' % (many, k.row) for n, k in self.params)
         t = 'abbrev stayed : Stays (%s.ended .signature .params) (%s.ended .kept)\nstayed = %s\n\n' % (F, F, stays)
         hyps = ' '.join(['(%s-is : %s)' % (n, k.is_(n)) for n, k in self.plain] + ['(r-%s : Room %s (length %s))' % (n, self.row(n), n) for n in self.slices])
-        t += 'module _ {M : Type 1} (𝓤 : URA M) (H : Heap 𝓤) (A : Atoms 𝓤) (W : Given 𝓤 H A) (mem : Memory → SProp 𝓤) (run″ : Routine → Fun 𝓤)\n    %s\n    %s\n    %s where\n' % (self.known(), self.values(), hyps)
+        t += 'module _ {M : Type 1} (𝓤 : URA M) (H : Heap 𝓤) (A : Atoms 𝓤) (W : Given 𝓤 H A) (mem : Memory → SProp 𝓤) (run″ : Routine → Fun 𝓤)\n%s    %s\n    %s where\n' % ('    %s\n' % self.known() if self.slices else '', self.values(), hyps)
         arg_type, val_type = 'Unit {0}', 'Unit {0}'
         for n, k in reversed(self.params):
             arg_type = '(%s × %s)' % ('RefT (%s)' % k.ty if n in self.slices else k.ty, arg_type)
@@ -328,9 +355,9 @@ class Lending:
         t += '  abbrev bound : walkOf 𝓤 H A %s.ended stayed (%s.clauses 𝓤 H A mem run″) .Ghost\n  bound = ((%s, %s, tt, args, at), tt)\n\n' % (F, F, self.κs, self.qs)
         t += '  abbrev Post : Val → SProp 𝓤\n  Post = walkOf 𝓤 H A %s.ended stayed (%s.clauses 𝓤 H A mem run″) .post bound\n\n' % (F, F)
         rows = ' ∷ '.join('MutSlice (named %d) κ-%s %s' % (self.life[n], n, k.row) if n in self.slices else k.row for n, k in self.params)
-        t += '  abbrev Toks : Item 𝓤\n  Toks = %s ⊛ ‵ ftrue\n\n  abbrev Owns : Item 𝓤\n  Owns = ‵ (owns (%s ∷ []) args at)\n\n' % (chain(self.token(n) for n in self.slices), rows)
+        t += '  abbrev Toks : Item 𝓤\n  Toks = %s\n\n  abbrev Owns : Item 𝓤\n  Owns = ‵ (owns (%s ∷ []) args at)\n\n' % (chain([self.token(n) for n in self.slices] + ['‵ ftrue']), rows)
         # what came in, entry by entry
-        t += '  parted : ent 𝓤 (sep 𝓤 (mean 𝓤 H A Toks) (mean 𝓤 H A Owns)) (mean 𝓤 H A (%s))\n' % chain([self.token(n) for n in self.slices] + [self.slice_own(n) for n in self.slices])
+        t += '  parted : ent 𝓤 (sep 𝓤 (mean 𝓤 H A Toks) (mean 𝓤 H A Owns)) (mean 𝓤 H A (%s))\n' % self.passed()
         cx = Context(['toks', 'owns'])
         b = cx.split(['tok·' + n for n in self.slices] + ['true']) + cx.move('owns')
         for n, k in self.params:
@@ -340,7 +367,7 @@ class Lending:
                 b += cx.move('owns')
             else:
                 b += 'drop ! $ '
-        b += cx.keep(*(['tok·' + n for n in self.slices] + ['own·' + n for n in self.slices])) + 'done !'
+        b += cx.keep(*(['tok·' + n for n in self.slices] + ['own·' + n for n in self.slices] or ['true'])) + 'done !'
         return t + '  parted =\n      qed W (Toks ∷ Owns ∷ []) ∵ ' + b + '\n\n'
 
     def returned(self, z='z'):
@@ -355,12 +382,13 @@ class Lending:
         t = '  -- from what the call left to the end\n  module _ (%s : ℕ) (w : Val) (z : %s) (told : %s w z) where\n' % (self.block_params, self.app('End'), self.app('Told'))
         t += I + 'result-is : %s\n' % R.is_(out)
         if self.made:
-            t += I + 'result-is = %s.owes %s %s %s\n\n' % (R.LL, R.tl, out, nest('told .is' if f == 'answer' else 'told .%s-is' % f for f in self.fields))
+            t += I + 'result-is = %s.owes %s %s %s\n\n' % (R.LL, R.tl, out, nest(self.owed(f) for f in self.fields))
         else:
             t += I + 'result-is = told .is\n\n'
         t += I + 'finish : ent 𝓤 (mean 𝓤 H A (%s z)) (Post %s)\n' % (self.app('Left'), R.val(out))
         cx = Context(['left'])
-        b = cx.split(['tok·' + n for n in self.slices] + ['fin·' + n for n in self.slices])
+        b = cx.split(['tok·' + n for n in self.slices] + ['fin·' + n for n in self.slices]) if self.slices else 'drop ! $ '
+        cx.items = cx.items if self.slices else []
         last = nest(self.final(n) if n in self.slices else 'tt' for n, k in self.params)
         fits = nest('told .%s-len' % n if n in self.slices else 'tt' for n, k in self.params)
         b += 'suffices ! _ (ends-at 𝓤 H A %s.ended stayed (%s.clauses 𝓤 H A mem run″) W bound %s %s %s %s) $ says ! (told .so) $ nothing ! $ ' % (F, F, R.val(out), out, last, fits)
@@ -375,6 +403,14 @@ class Lending:
                 b += k.owned(n, n + '-is') + 'fjoin ! $ '
         b += 'frame ! $ %sdone !' % R.owned(out, 'result-is')
         return t + I + 'finish =\n' + I + '    qed W (%s z ∷ []) ∵ ' % self.app('Left') + b + '\n\n'
+
+    def owed(self, f):
+        """What is owed of a field of the result."""
+        if f == 'answer':
+            return 'told .is'
+        if f in self.arrays:
+            return 'field-is %s %d %s (told .%s-is)' % (self.kind[f].element.tl, self.kind[f].count, self.final(f), f)
+        return 'told .%s-is' % f
 
     def assign(self, cx, st):
         d, path = place(st[1])
@@ -400,7 +436,11 @@ class Lending:
         else:
             n = [n for n in self.refs if self.copy[n] == local][0]
             typed = self.kind[n].typed(self.final(n), '_', '(told .%s-is)' % n)
-        return 'assigns ! (of-opd ! %s) %s%s) $ ' % (operand(cx, rv[1]), to, typed)
+        t = 'assigns ! (of-opd ! %s) %s%s) $ ' % (operand(cx, rv[1]), to, typed)
+        if n in self.arrays and local not in self.param:
+            # the array is to be a field
+            t += 'rewrite ! %d (λ (u : Val). ‵ (fat fullShare %s %s 0 u)) (field-value %s %s) refl $ ' % (cx.at('_%d' % d), self.mir(n), block(d), self.kind[n].element.tl, self.final(n))
+        return t
 
     def mir(self, n):
         k = self.kind[n]
@@ -457,7 +497,7 @@ class Lending:
             self.filled.append(d)
             typed = self.answer.typed('(z .0)', '(w ∷ [])', '(subst (λ (u : Val). Is %s (z .0) (u ∷ [])) (sym (told .value)) (told .is))' % self.answer.row)
             t += '\n' + I + 'land ! (from ! (stop !)) (init ! %d refl %s) $\n' % (cx.at('_%d' % d), typed)
-            t += I + 'rewrite ! %d (λ (u : Val). ‵ (fat fullShare %s-l.mir %s 0 u)) (told .value) refl $\n' % (cx.at('_%d' % d), self.answer.name, block(d))
+            t += I + 'rewrite ! %d (λ (u : Val). ‵ (fat fullShare %s %s 0 u)) (told .value) refl $\n' % (cx.at('_%d' % d), '(tyInt %s)' % self.answer.w if self.answer.num else self.answer.name + '-l.mir', block(d))
         finish = 'finish %s w z told' % ' '.join(self.block[n] for n in self.locals)
         t = t.replace('made-is', '(result-is %s w z told)' % ' '.join(self.block[n] for n in self.locals))
         t += I + cx.move('left') + 'use1 W (raw (Post %s)) (%s) $ ' % (R.val(self.returned()), finish)

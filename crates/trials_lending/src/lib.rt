@@ -7,10 +7,12 @@ use protocol_types::PriceAnswer;
 use protocol_types::Request;
 use protocol_types::Setup;
 ghost use mathlib.Core.Path.{_≡_};
+ghost use lib.ListN.{length};
 ghost use Rattle.protocol.specs.Lent.{before, after};
 ghost use Rattle.protocol.specs.Engines.{run as ran};
 ghost use Rattle.protocol.specs.Runs.{engine};
 ghost use Rattle.protocol.specs.Pricer.{price as priced, priceTables, inNumbers, priceNumbers};
+ghost use Rattle.protocol.specs.Generator.{generateRefusal, generated};
 ghost use Rattle.rival_copies.specs.Copies.{rivalBefore, rivalAfter};
 ghost use Rattle.run_progress.specs.Progress.{outcome};
 
@@ -65,4 +67,21 @@ pub fn price_arrays(
         × (rivalAfter blocks held marks ≡ priceTables setup (rivalBefore blocks held marks) requests entries) ⌝ }
 {
     rival_pricer::price(setup, blocks, held, marks, &entries, &requests)
+}
+
+// What the generator left: the refusal number or 0, and the requests.
+pub struct Generated {
+    pub refusal: u32,
+    pub requests: [Request; REQUESTS],
+}
+
+// The requests of a seed in an array, by the entry `generate`.
+pub fn generate_array(setup: Setup, seed: u32, mut requests: [Request; REQUESTS]) -> Generated
+    ensures { λ r. ⌜ (r .refusal ≡ generateRefusal setup seed (length requests)) × (r .requests ≡ generated setup seed requests) ⌝ }
+{
+    let refusal = generator::generate(setup, seed, &mut requests);
+    Generated {
+        refusal: refusal,
+        requests: requests,
+    }
 }

@@ -114,7 +114,7 @@ fn any_entry(cells: &mut Cells) -> Entry {
     }
 }
 
-fn any_requests(cells: &mut Cells) -> [Request; REQUESTS] {
+pub(crate) fn any_requests(cells: &mut Cells) -> [Request; REQUESTS] {
     [
         any_request(cells),
         any_request(cells),

@@ -3,6 +3,7 @@
 use crate::board::Copies;
 use crate::board::SLOTS;
 use crate::board::Tables;
+use crate::numbers::RequestNumbers;
 use protocol_types::Account;
 use trials_cells::cells::Cells;
 use trials_cells::cells::differences;
@@ -20,7 +21,7 @@ pub const NUMBERS: u32 = 384;
 const CELLS: u32 = 128;
 
 // Where each part of a side begins: the refusal number, the place, the requests taken, the account, the cost, and the
-// tables.
+// tables or the list.
 const REFUSAL: u32 = 0;
 
 const PLACE: u32 = 1;
@@ -114,6 +115,11 @@ pub(crate) fn lay_copies(cells: &mut Cells, side: u32, copies: Copies) {
     let held = copies.held;
     let marks = copies.marks;
     lay_lines(cells, side, blocks, held, marks);
+}
+
+// The numbers of a list of requests.
+pub(crate) fn lay_list(cells: &mut Cells, side: u32, list: RequestNumbers) {
+    lay(cells, sum(side, TABLES), &list);
 }
 
 // Whether the n cells from `first` on differ on the two sides.
