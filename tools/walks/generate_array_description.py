@@ -14,7 +14,7 @@ HERE, KIT = 'trials_lending', 'walks'
 Setup, Request = (Kind(n, 'protocol_types') for n in ('Setup', 'Request'))
 
 generate_array = Lending(
-    root=ROOT, here=HERE, kit=KIT, laws='Arrays', name='generate_array', entry=Entry(HERE, 'generator', 'generate', 'Generate'),
+    root=ROOT, here=HERE, kit=KIT, name='generate_array', entry=Entry(HERE, 'generator', 'generate', 'Generate'),
     params=[('setup', Setup), ('seed', Kind('u32')), ('requests', Array(Request, 8))],
     refs=['requests'], answer=Kind('u32'), result=Kind('Generated', HERE), made='record {{ refusal = {answer}; requests = {requests} }}', fields=['answer', 'requests'],
     says='({answer} ≡ generateRefusal setup seed (length requests)) × ({requests} ≡ generated setup seed requests)',

@@ -63,13 +63,13 @@ class Array:
 
 
 class Lending:
-    """root, here, name: the repository, and the function's crate and name. kit: the crate of Frame, Opening and Lending. entry: the Entry.
-    params: (name, Kind | Slice | Array). refs: the names of those that are lent by &mut. laws: the file of this crate that has array-lends and array-returns, if an array is.
+    """root, here, name: the repository, and the function's crate and name. kit: the crate of Frame, Opening, Lending and Arrays. entry: the Entry.
+    params: (name, Kind | Slice | Array). refs: the names of those that are lent by &mut.
     answer: the Kind of what the callee returns. result: the Kind of what the function returns. Where that is another one: made, the struct's text, with
     {answer} and {NAME} for the last value of what is lent by &mut, and fields, which of these each field is.
     says: what both contracts say, with {answer}, and {NAME} for the last value of a buffer or of what is lent by &mut. cites: what it names (parts.spec_uses)."""
 
-    made = fields = laws = None
+    made = fields = None
 
     def __init__(self, **given):
         self.__dict__.update(given)
@@ -157,7 +157,7 @@ class Lending:
         G, I = self.G, ' ' * 4
         t = '-- The call of `%s` by a caller that lends its own locals: each is lent for a lifetime of its own and stands again as a cell after the call. The buffers are passed on at their own lifetimes, shares and names, and what is had of them after the call is what says their last values.\n' % self.entry.name
         t += '--     before, after       what stands before the call and after it\n-- Assumes `Given`.\n'
-        t += HEAD + kind_uses(self.here, self.kinds() + [self.answer]) + spec_uses(self.here, self.cites) + kit_uses(self.here, self.kit) + self.law_uses()
+        t += HEAD + kind_uses(self.here, self.kinds() + [self.answer]) + spec_uses(self.here, self.cites) + kit_uses(self.here, self.kit)
         t += 'use %s.%s as %s\n\n' % (proofs(self.here, self.entry.crate), self.entry.name, G)
         t += 'module _ {M : Type 1} (𝓤 : URA M) (H : Heap 𝓤) (A : Atoms 𝓤) (mem : Memory → SProp 𝓤) (run″ : Routine → Fun 𝓤) where\n'
         t += '  abbrev pub Called : Contract 𝓤\n  Called = tripleOf 𝓤 H A %s.signature (%s.spec 𝓤 H A mem run″)\n\n' % (G, G)
@@ -173,9 +173,6 @@ class Lending:
         t += I + 'abbrev pub Out : Key → Item 𝓤\n' + I + 'Out k = %s\n\n' % chain(self.loan(n, '(k .%d ∷ [])' % self.number[n][0], '(k .%d)' % self.number[n][1]) for n in self.locals)
         t += self.before(I) + self.told(I) + self.after(I)
         return prune(t)
-
-    def law_uses(self):
-        return 'use %s.%s.{array-lends, array-returns, field-value, field-is}\n' % (proofs(self.here, self.here), self.laws) if self.laws else ''
 
     def passed(self):
         """What comes in of the buffers, entry by entry."""
@@ -333,7 +330,7 @@ class Lending:
         here, own = self.here, '%s.%s' % (proofs(self.here, self.here), self.name)
         t = '-- `%s::%s` meets its contract: a walk of its MIR, by hand. It knows of `%s` only that it meets its contract.\n' % (here, self.name, self.entry.name)
         t += '-- The buffers are passed on for good. The locals are lent for the call, and freed at the end.\n-- The context is [_0; …; _%d; that the locals die; what came in]. Assumes nothing.\n' % (self.count - 1)
-        t += 'mod %s\n' % self.mod + HEAD + kind_uses(here, self.kinds() + [self.answer, self.result]) + spec_uses(here, self.cites) + kit_uses(here, self.kit) + self.law_uses()
+        t += 'mod %s\n' % self.mod + HEAD + kind_uses(here, self.kinds() + [self.answer, self.result]) + spec_uses(here, self.cites) + kit_uses(here, self.kit)
         t += 'use %s.Proof.%s as %s\n' % (own, self.mod, self.mod) + self.entry.uses()
         return t + 'use %s.Key.{name as #%s·%s}\nuse %s as %s\nuse %s.Statement as stated\nuse %s.Code as code\n\n' % (own, here, self.F, own, self.F, own, own)
 

@@ -254,11 +254,13 @@ use denote.Exit.{yes}
 FRAME = '{dieAll, blocks as blocks-of, slots, alloc-all, leave-all, rest-of, then-of, else-of}'
 OPENING = '{at-list, at-value, slice-at, Cells, Opened, RefOpened, Loan, Shared, slice-opens, slice-closes, slice-lends, slice-returns, slice-shares, slice-unshares, ref-opens, ref-closes}'
 LENDING = '{RefLoan, ref-lends, ref-returns, array-shares, array-unshares}'
+ARRAYS = '{array-lends, array-returns, field-value, field-is}'
 
 
 def kit_uses(here, kit):
-    """kit: the crate that has proofs/Frame.antt, proofs/Opening.antt and proofs/Lending.antt."""
-    return 'use %s.Frame.%s\nuse %s.Opening.%s\nuse %s.Lending.%s\n' % (proofs(here, kit), FRAME, proofs(here, kit), OPENING, proofs(here, kit), LENDING)
+    """kit: the crate that has proofs/Frame.antt, proofs/Opening.antt, proofs/Lending.antt and proofs/Arrays.antt."""
+    files = (('Frame', FRAME), ('Opening', OPENING), ('Lending', LENDING), ('Arrays', ARRAYS))
+    return ''.join('use %s.%s.%s\n' % (proofs(here, kit), f, names) for f, names in files)
 
 
 def kind_uses(here, kinds):

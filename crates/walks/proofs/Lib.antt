@@ -1,3 +1,4 @@
 pub mod Frame
 pub mod Lending
 pub mod Opening
+pub mod Arrays

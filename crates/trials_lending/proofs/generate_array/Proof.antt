@@ -46,7 +46,7 @@ use Rattle.protocol_types.proofs.Request.Laws as Request-l
 use Rattle.trials_lending.proofs.Generated as Generated-t
 use Rattle.trials_lending.proofs.Generated.Laws as Generated-l
 use Rattle.walks.proofs.Frame.{blocks as blocks-of, alloc-all, leave-all}
-use Rattle.trials_lending.proofs.Arrays.{field-value, field-is}
+use Rattle.walks.proofs.Arrays.{field-value, field-is}
 use Rattle.trials_lending.proofs.generate_array.Proof.Generate as Generate
 use Rattle.generator.proofs.generate.Symbol as generate-def
 use Rattle.generator.proofs.generate.Symbol.{name as #generator·generate}

@@ -39,7 +39,7 @@ use Rattle.protocol_types.proofs.Request as Request-t
 use Rattle.protocol_types.proofs.Request.Laws as Request-l
 use Rattle.protocol.specs.Generator.{generateRefusal, generated}
 use Rattle.walks.proofs.Opening.{at-list, Loan}
-use Rattle.trials_lending.proofs.Arrays.{array-lends, array-returns}
+use Rattle.walks.proofs.Arrays.{array-lends, array-returns}
 use Rattle.generator.proofs.generate as generate
 
 module _ {M : Type 1} (𝓤 : URA M) (H : Heap 𝓤) (A : Atoms 𝓤) (mem : Memory → SProp 𝓤) (run″ : Routine → Fun 𝓤) where

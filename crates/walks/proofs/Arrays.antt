@@ -1,4 +1,4 @@
--- A local array of n elements of a plain type, lent to a callee as a slice by `&ν mut [T]` and taken back. It says nothing of the crate, and stands beside crates/walks/proofs/Lending.antt.
+-- A local array of n elements of a plain type, lent to a callee as a slice by `&ν mut [T]` and taken back. It says nothing of a crate.
 --     array-lends          given Is xs vs and `Room` of n:  the cell with vs  ⊢ ⇛ ∃ δ. own (the `&ν mut [T]` δ at xs, of n elements) ∗ Loan ν δ n
 --     array-returns        given that zs has n elements:  [†ν] ∗ Loan ν δ n ∗ finally δ zs  ⊢ ⇛ (⌜Is zs (the elements' values)⌝ ∧ the cell with the elements' values ∗ [†ν])
 -- The same array as a field of a struct, which goes by the tuples of its elements:
