@@ -111,6 +111,6 @@ fn main() {
     state::set_seed(&mut cells, FIRST_SEED);
     layout::put_pattern(&mut cells);
     lists(&mut cells, LISTS);
-    shown::print_seed(&mut cells);
+    shown::print_requests(&mut cells);
     print_all(&cells);
 }

@@ -5,12 +5,12 @@ use Rattle.trials_generator.proofs.shown.print_requests.Statement.{stat
 use Rattle.trials_generator.proofs.shown.print_requests.Tie as tie
 
 abbrev Inv-loop : tie.InvT-loop
-Inv-loop cells n t₀ t5 t6 t7 t8 t = 0 ≤ t
+Inv-loop cells₀ x₀ t₀ cells x t = 0 ≤ t
 
 abbrev μ-loop : tie.MeasureT-loop
-μ-loop cells n t₀ t5 t6 t7 t8 t = n - t
+μ-loop cells₀ x₀ t₀ cells x t = 4 - t
 
 pub print-requests-spec : {M : Type 1} → statement M
 print-requests-spec =
     tie.close
-    (tie.spec Inv-loop μ-loop (λ c. search needs) (λ c κs. search needs) (λ c κs. search needs) (λ c. search needs) (λ c κs. search needs) (λ c. search needs) (λ c κs. search needs) (λ c κs. search needs) (λ c. search needs) (λ c κs. search needs) (λ c κs. search needs) (λ c. search needs) (λ c κs. search needs) (λ c κs. search needs) (λ c. search needs) (λ c. search needs) (λ c. search needs) (λ c. search needs))
+    (tie.spec Inv-loop μ-loop (λ c κs. search needs) (λ c κs. search needs) (λ c. search needs) (λ c κs. search needs) (λ c κs. search needs) (λ c κs. search needs) (λ c κs. search needs) (λ c κs. search needs) (λ c κs. search needs) (λ c. search needs) (λ c. search needs) (λ c. search needs) (λ c. search needs))
