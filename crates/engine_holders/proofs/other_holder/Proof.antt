@@ -1,8 +1,10 @@
 -- At each number the search of what is left finds what the whole search finds (protocol's laws of searches); it ends at the first other holder, or at the
--- number of processors.
+-- number of processors. A byte holds every number: the processors are at most 8 (`few-processors`), so their number (`cast-n`) and the next one (`add-other`)
+-- fit, and the search counts no further than their number.
 use borrow.Author.Needs.{needs}
 use Prim.Native.Nat.{ℕ, _≤_, _-_}
 use mathlib.Core.Path.{_≡_, _∙_}
+use mathlib.Core.Logic.{⊎-elim}
 use mathlib.Core.List.{List}
 use native.Mathlib.Omega.{arith}
 use denote.Ref.{now}
@@ -23,39 +25,52 @@ abbrev μ-loop : tie.MeasureT-loop
 μ-loop setup processor block blocks counters n other₀ other =
     setup .processors - other
 
+cast-n : tie.Need-cast-n Inv-loop μ-loop
+cast-n c =
+    let start = c .before .before .before in
+    omega (arith, start .pre .0 .few-processors)
+
 loop-holds : tie.Need-loop-holds Inv-loop μ-loop
 loop-holds c =
-    let start = c .before .before in
+    let start = c .before .before .before in
     let a = start .args in (
       omega arith,
       λ m w g. let t = tables (now (a .blocks)) (now (a .counters)) m w g in
           search-started (otherHolds (a .setup) t (a .processor) (a .block)) (a .setup .processors) ∙ other-holder-is (a .setup) t (a .block) (a .processor),
     )
 
+add-other : tie.Need-add-other Inv-loop μ-loop
+add-other c =
+    let loop′ = c .before .before .before in
+    let start = loop′ .before .before .before .before in
+    omega (arith, c .before .before .loop-test .taken, start .pre .0 .few-processors)
+
 loop-again : tie.Need-loop-again Inv-loop μ-loop
 loop-again c =
     let loop′ = c .before .before .before in
-    let start = loop′ .before .before .before in
+    let start = loop′ .before .before .before .before in
     let a = start .args in (
       omega arith,
       λ m w g. search-passed (otherHolds (a .setup) (tables (now (a .blocks)) (now (a .counters)) m w g) (a .processor) (a .block)) (a .setup .processors) (loop′ .loop .other) _
           (loop′ .loop .inv .1 m w g) (c .before .other-holds .result) (omega arith) (c .before .other-holds .ensures m w g) (c .if1 .left),
     )
 
+-- the answer by omega: where it is another reading of the byte, this fails at a number
 returns : tie.Need-returns Inv-loop μ-loop
 returns c m w g =
-    let start = c .before .before .before .before in
+    let loop′ = c .before in
+    let start = loop′ .before .before .before .before in
     let a = start .args in
-    search-ended (otherHolds (a .setup) (tables (now (a .blocks)) (now (a .counters)) m w g) (a .processor) (a .block)) (a .setup .processors) (c .before .loop .other) _
-    (c .before .loop .inv .1 m w g) (omega arith)
-
-returns-2 : tie.Need-returns-2 Inv-loop μ-loop
-returns-2 c m w g =
-    let loop′ = c .before .before .before in
-    let start = loop′ .before .before .before in
-    let a = start .args in
-    search-found (otherHolds (a .setup) (tables (now (a .blocks)) (now (a .counters)) m w g) (a .processor) (a .block)) (a .setup .processors) (loop′ .loop .other) _
-    (loop′ .loop .inv .1 m w g) (c .before .other-holds .result) (omega arith) (c .before .other-holds .ensures m w g) (c .if1 .taken)
+    let t = tables (now (a .blocks)) (now (a .counters)) m w g in
+    let P = otherHolds (a .setup) t (a .processor) (a .block) in
+    let n = a .setup .processors in
+    let whole = loop′ .loop .inv .1 m w g in
+    let found : loop′ .loop .other ≡ otherHolder (a .setup) t (a .processor) (a .block) =
+    ⊎-elim
+    (λ e. search-ended P n (loop′ .loop .other) _ whole (omega (arith, e .left)))
+    (λ e. search-found P n (loop′ .loop .other) _ whole (e .1 .result) (omega (arith, e .0 .taken)) (e .1 .ensures m w g) (e .2 .taken))
+    (c .loop-test .came) in
+    omega (arith, found)
 
 pub other-holder-spec : {M : Type 1} → statement M
 other-holder-spec =
@@ -63,10 +78,12 @@ other-holder-spec =
     (tie.spec
     Inv-loop
     μ-loop
+    cast-n
     loop-holds
-    (λ c κs. search needs)
     (λ c. search needs)
+    (λ c κs. search needs)
+    add-other
     (λ c. search needs)
     loop-again
-    returns
-    returns-2)
+    (λ c. search needs)
+    returns)
