@@ -54,16 +54,16 @@ fn other_holds(
 }
 
 // The lowest-numbered other holder; the number of processors where there is none.
-// This is the search for the payer, and it counts processors in a byte (document 02, P3). A byte is enough, since N is at most 8 (`Fits`): proofs/other_holder
-// proves from it that the cast of N loses nothing (`cast-n`) and that the count does not wrap (`add-other`).
+// This is the search for the payer, and it counts processors in a byte (document 02, P3). A byte is enough, because the count ends at N and N is at most 8
+// (`few-processors` of `Fits`): `add-other` in proofs/other_holder proves that the next number always fits.
 fn other_holder(setup: Setup, processor: u32, block: Block, blocks: &[u32], counters: &[u32]) -> u32
     requires { ⌜ Fits setup ⌝ }
     requires { ⌜ PerSlot setup blocks × PerSlot setup counters ⌝ }
     ensures { λ r. ⌜ ((m w g : List ℕ) → r ≡ otherHolder setup (before blocks counters (unlent m) (unlent w) (unlent g)) processor block) ⌝ }
 {
-    let n = setup.processors as u8;
+    let n = setup.processors;
     let mut other: u8 = 0;
-    while other < n {
+    while (other as u32) < n {
         if other_holds(setup, processor, block, other as u32, blocks, counters) {
             break;
         }

@@ -1,6 +1,5 @@
 -- At each number the search of what is left finds what the whole search finds (protocol's laws of searches); it ends at the first other holder, or at the
--- number of processors. A byte holds every number: the processors are at most 8 (`few-processors`), so their number (`cast-n`) and the next one (`add-other`)
--- fit, and the search counts no further than their number.
+-- number of processors. These are at most 8 (`few-processors`), so a byte holds the next number too (`add-other`).
 use borrow.Author.Needs.{needs}
 use Prim.Native.Nat.{ℕ, _≤_, _-_}
 use mathlib.Core.Path.{_≡_, _∙_}
@@ -25,14 +24,9 @@ abbrev μ-loop : tie.MeasureT-loop
 μ-loop setup processor block blocks counters n other₀ other =
     setup .processors - other
 
-cast-n : tie.Need-cast-n Inv-loop μ-loop
-cast-n c =
-    let start = c .before .before .before in
-    omega (arith, start .pre .0 .few-processors)
-
 loop-holds : tie.Need-loop-holds Inv-loop μ-loop
 loop-holds c =
-    let start = c .before .before .before in
+    let start = c .before .before in
     let a = start .args in (
       omega arith,
       λ m w g. let t = tables (now (a .blocks)) (now (a .counters)) m w g in
@@ -42,24 +36,24 @@ loop-holds c =
 add-other : tie.Need-add-other Inv-loop μ-loop
 add-other c =
     let loop′ = c .before .before .before in
-    let start = loop′ .before .before .before .before in
+    let start = loop′ .before .before .before in
     omega (arith, c .before .before .loop-test .taken, start .pre .0 .few-processors)
 
 loop-again : tie.Need-loop-again Inv-loop μ-loop
 loop-again c =
     let loop′ = c .before .before .before in
-    let start = loop′ .before .before .before .before in
+    let start = loop′ .before .before .before in
     let a = start .args in (
       omega arith,
       λ m w g. search-passed (otherHolds (a .setup) (tables (now (a .blocks)) (now (a .counters)) m w g) (a .processor) (a .block)) (a .setup .processors) (loop′ .loop .other) _
           (loop′ .loop .inv .1 m w g) (c .before .other-holds .result) (omega arith) (c .before .other-holds .ensures m w g) (c .if1 .left),
     )
 
--- the answer by omega: where it is another reading of the byte, this fails at a number
+-- found by the laws; that the byte, widened, is the answer is left to omega, so that a shorter reading of the byte fails at a number
 returns : tie.Need-returns Inv-loop μ-loop
 returns c m w g =
     let loop′ = c .before in
-    let start = loop′ .before .before .before .before in
+    let start = loop′ .before .before .before in
     let a = start .args in
     let t = tables (now (a .blocks)) (now (a .counters)) m w g in
     let P = otherHolds (a .setup) t (a .processor) (a .block) in
@@ -78,8 +72,8 @@ other-holder-spec =
     (tie.spec
     Inv-loop
     μ-loop
-    cast-n
     loop-holds
+    (λ c. search needs)
     (λ c. search needs)
     (λ c κs. search needs)
     add-other
