@@ -17,6 +17,7 @@ use Rattle.protocol.specs.Soundness.{Sound}
 use Rattle.protocol.specs.Rules.{writtenBack, emptied, filled, saved, evicted, owner, released, fetched, obtained, payer, writtenAlone, broadcast, charged, written}
 use Rattle.protocol_types.specs.Conditions.{Named}
 use Rattle.protocol.specs.Requests.{servedBy, served}
+use Rattle.protocol.specs.Accounts.{fetchAndUpdate}
 use Rattle.protocol.specs.Rival.{Rival, RivalSized, keepsAt, keeps, shared, rivalFetched, rivalWrittenBack, rivalDropped, rivalCompleted, completionBy, completionCycles, Legal, costs}
 use Rattle.protocol_types.specs.declared.Setup.{Setup}
 use Rattle.protocol_types.specs.declared.Variable.{Variable}
@@ -24,7 +25,6 @@ use Rattle.protocol_types.specs.declared.Block.{Block}
 use Rattle.protocol_types.specs.declared.Request.{Request}
 use Rattle.protocol_types.specs.declared.Operation.{Operation}
 use Rattle.protocol_types.specs.declared.Operation.the-variants.{Read, Write}
-use Rattle.protocol_types.specs.declared.Bill.{Bill}
 use Rattle.protocol_types.specs.declared.Entry.{Entry}
 use Rattle.protocol_types.specs.declared.Entry.the-variants.{Fetch, WriteBack, Drop, Complete, CompleteByBroadcast}
 use Rattle.protocol_types.proofs.Laws.{Known, sure, not-so, known, choice, chosen-zero, agree, both-true, and-true, other-some, at-set-same, at-set-other, at-set-zero}
@@ -35,10 +35,6 @@ use Rattle.protocol.proofs.Rival.{move-legal, Completable, Completion, completi
 use Rattle.competitive.proofs.Sums.{sum, sum-one}
 use Rattle.competitive.proofs.StepSound.{sound-obtained, obtained-holds, sound-served}
 use Rattle.competitive.proofs.Potential.{Potential}
-
--- what a schedule pays for fetches and completions
-abbrev pub paidFor : Bill → ℕ
-paidFor c = c .fetch + c .update
 
 -- ---- the rival's copies
 
@@ -373,7 +369,7 @@ module _ (s : Setup) (ok : Fits s) (F W U : ℕ) (ψ : ℕ → ℕ → ℕ → �
   rivalWrittenBack-total t r i b = refl
 
   pub bound : (es : List Entry) (t : Tables) (r : Rival) (qs : List Request) → Sound s t → RivalSized s r → Legal s r qs es
-      → weights F W U s t qs ≤ paidFor (costs s r qs es) + total ψ s t r
+      → weights F W U s t qs ≤ fetchAndUpdate (costs s r qs es) + total ψ s t r
   bound [] t r [] sd sh l = omega arith
   bound [] t r (q ∷ qs) sd sh l = absurd (omega (arith, l))
   bound (Fetch i b ∷ es) t r qs sd sh l =

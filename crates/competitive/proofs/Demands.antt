@@ -4,7 +4,8 @@ use Rattle.protocol_types.specs.Refusals.{noRefusal}
 use Rattle.protocol_types.specs.Board.{setupRefusal}
 use Rattle.competitive.specs.Claims.{Demands}
 use Rattle.protocol_types.specs.declared.Setup.{Setup}
-use Rattle.competitive.proofs.Claim.{claim}
+use Rattle.competitive.proofs.Claim.{split-claim, claim-of}
+use Rattle.competitive.proofs.CostKinds.{cost-kinds}
 use Rattle.competitive.proofs.Tight.{tight-list}
 use Rattle.competitive.proofs.LastValues.{last-values}
 use Rattle.competitive.proofs.Priced.{judged-right, priced-right}
@@ -16,7 +17,12 @@ demands s accepted = record {
   last-values = last-values s accepted;
   judged-right = judged-right s;
   priced-right = priced-right s;
-  demand3 = record { bounded = claim s accepted; tight = tight-list s accepted };
+  demand3 = record {
+    bounded = λ a p rs. claim-of s a rs (split-claim s accepted a p rs);
+    split = split-claim s accepted;
+    kinds = cost-kinds s;
+    tight = tight-list s accepted;
+  };
   repeatable = repeatable s;
   engine-is-rival = λ a p rs. runs-rival s accepted (a .requests) rs;
 }

@@ -35,6 +35,7 @@ use Rattle.protocol_types.proofs.Laws.{Same, same, apart, same?, Under, under, 
 use Rattle.protocol_types.proofs.Board.{block-path, block-number, setup-fits, row-lt, row-mod, line-lt, slot-lt, slot-inj, processor-lt, offset-lt, block-lt}
 use Rattle.protocol.proofs.Holding.{holdsAt-true, true-holdsAt, holder-slot, payer-below, payer-found, owner-found}
 use Rattle.protocol.proofs.Engines.{all-valid}
+use Rattle.protocol.proofs.Accounts.{bill-path}
 use Rattle.protocol.proofs.Rival.{legal-completion, length-unmarked}
 use Rattle.competitive.proofs.Sound.{sound-writtenBack}
 use Rattle.competitive.proofs.StepSound.{marked-holds, placed, sound-evicted, sound-released, released-unmarked, sound-obtained, obtained-holds, shared-facts, sound-served}
@@ -42,7 +43,6 @@ use Rattle.competitive.proofs.Fresh.{sound-fresh}
 use Rattle.competitive.proofs.Bound.{released-counters, released-blocks, evicted-zero}
 use Rattle.competitive.proofs.Lawful.{lawful}
 use Rattle.competitive.proofs.Tight.{rival-path}
-use Rattle.competitive.proofs.Priced.{bill-path}
 
 -- ---- the engine's copies as a rival's
 

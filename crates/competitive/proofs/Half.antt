@@ -1,5 +1,5 @@
--- Theorem 4.2 of source document 000 and the factor of two, over one list of requests from fresh tables.
-use Prim.Native.Nat.{ℕ, _+_, _*_, _≤_}
+-- Theorem 4.2 of source document 000, over one list of requests from fresh tables.
+use Prim.Native.Nat.{ℕ, _+_, _≤_}
 use mathlib.Core.Path.{_≡_, refl}
 use mathlib.Core.Bool.{Bool, true, false, cond}
 use mathlib.Core.List.{List, [], _∷_}
@@ -8,10 +8,11 @@ use Rattle.protocol_types.specs.Board.{Fits, slots, slot, blockOf, fetchPrice, 
 use Rattle.protocol.specs.Tables.{Tables, fresh, holds, sharing, marked}
 use Rattle.protocol.specs.Rules.{saveCycles, obtained, fetchCycles, writeBackCycles, updateCycles}
 use Rattle.protocol.specs.Requests.{served, billBy, bill}
-use Rattle.protocol.specs.Accounts.{cycles}
+use Rattle.protocol.specs.Accounts.{fetchAndUpdate}
 use Rattle.protocol.specs.Engines.{spent}
 use Rattle.protocol.specs.Runs.{engine}
 use Rattle.protocol.specs.Rival.{noCopies, Legal, costs}
+use Rattle.competitive.specs.Claims.{SplitBill}
 use Rattle.protocol_types.specs.declared.Setup.{Setup}
 use Rattle.protocol_types.specs.declared.Block.{Block}
 use Rattle.protocol_types.specs.declared.Request.{Request}
@@ -23,7 +24,7 @@ use Rattle.protocol.proofs.Rival.{sized-noCopies}
 use Rattle.competitive.proofs.Sums.{sum-zero}
 use Rattle.competitive.proofs.Fresh.{sound-fresh}
 use Rattle.competitive.proofs.Potential.{Potential, debt, load, fetch-potential, update-potential}
-use Rattle.competitive.proofs.Bound.{obtainedWeight, writtenWeight, weightBy, weight, weights, total, paidFor, bound}
+use Rattle.competitive.proofs.Bound.{obtainedWeight, writtenWeight, weightBy, weight, weights, total, bound}
 
 -- ---- the start: empty caches on both sides
 
@@ -77,10 +78,10 @@ unfolding weight bill
 update-weights s t [] = omega arith
 update-weights s t (q ∷ qs) = omega (arith, update-weight s t (q .processor) (q .operation), update-weights s (served s t q) qs)
 
--- ---- theorem 4.2 and the factor of two
+-- ---- theorem 4.2
 
 module _ (s : Setup) (ok : Fits s) (qs : List Request) (es : List Entry) (legal : Legal s (noCopies s) qs es) where
-  pub fetch-half : spent (engine s) (fresh s) qs .fetch ≤ paidFor (costs s (noCopies s) qs es)
+  fetch-half : spent (engine s) (fresh s) qs .fetch ≤ fetchAndUpdate (costs s (noCopies s) qs es)
   fetch-half =
       let f = fetchPrice s in
       let P = fetch-potential f in
@@ -91,7 +92,7 @@ module _ (s : Setup) (ok : Fits s) (qs : List Request) (es : List Entry) (legal 
         bound s ok f 0 0 (debt f) P es (fresh s) (noCopies s) qs (sound-fresh s) (sized-noCopies s) legal,
       )
 
-  pub update-half : spent (engine s) (fresh s) qs .«write_back» + spent (engine s) (fresh s) qs .update ≤ paidFor (costs s (noCopies s) qs es)
+  update-half : spent (engine s) (fresh s) qs .update + spent (engine s) (fresh s) qs .«write_back» ≤ fetchAndUpdate (costs s (noCopies s) qs es)
   update-half =
       let P = update-potential (fetchPrice s) (writeBackPrice s) (ok .write-back-le-fetch) in
       omega (
@@ -101,5 +102,5 @@ module _ (s : Setup) (ok : Fits s) (qs : List Request) (es : List Entry) (legal 
         bound s ok 0 (writeBackPrice s) 1 (load (fetchPrice s)) P es (fresh s) (noCopies s) qs (sound-fresh s) (sized-noCopies s) legal,
       )
 
-  pub half : cycles (spent (engine s) (fresh s) qs) ≤ 2 * cycles (costs s (noCopies s) qs es)
-  half = omega (arith, fetch-half, update-half)
+  pub split-bill : SplitBill (spent (engine s) (fresh s) qs) (costs s (noCopies s) qs es)
+  split-bill = record { fetches = omega (arith, fetch-half); updates = omega (arith, update-half) }

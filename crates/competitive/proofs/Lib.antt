@@ -10,6 +10,7 @@ pub mod Lawful
 pub mod Claim
 pub mod Whole
 pub mod Tight
+pub mod CostKinds
 pub mod Generator
 pub mod Shown
 pub mod Priced

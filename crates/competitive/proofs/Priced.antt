@@ -18,6 +18,7 @@ use Rattle.protocol_types.specs.declared.Bill.{Bill}
 use Rattle.protocol_types.specs.declared.Entry.{Entry}
 use Rattle.protocol_types.specs.declared.PriceAnswer.{PriceAnswer}
 use Rattle.protocol_types.specs.declared.PriceAnswer.the-variants.{Accepted, Refused}
+use Rattle.protocol.proofs.Accounts.{bill-path}
 use Rattle.protocol.proofs.Rival.{sized-noCopies}
 use Rattle.protocol.proofs.Pricer.{price-passed}
 use Rattle.competitive.proofs.Shown.{none-shown, last-shown}
@@ -27,9 +28,6 @@ use Rattle.competitive.proofs.Shown.{none-shown, last-shown}
 abbrev isAccepted : Verdict → Bool
 isAccepted (accepted r c) = true
 isAccepted (refused n k) = false
-
-pub bill-path : {a c : Bill} → a .fetch ≡ c .fetch → a .«write_back» ≡ c .«write_back» → a .update ≡ c .update → a ≡ c
-bill-path f g h = λ i. record { fetch = f i; «write_back» = g i; update = h i }
 
 legal-accepted : (s : Setup) (r : Rival) (qs : List Request) (es : List Entry) (n : ℕ) (c : Bill) → Legal s r qs es
     → judged s r qs es n c ≡ accepted (lastCopies s r qs es) (plus c (costs s r qs es))

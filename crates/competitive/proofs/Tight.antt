@@ -1,4 +1,4 @@
--- Demand 3, its second half: lists on which the engine costs 2f + 2fk and a legal schedule 2f + fk.
+-- Demand 3, its second half: lists on which the engine costs 2f + 2fk, half of it and f more for fetches, and a legal schedule 2f + fk, all of it for fetches.
 use Prim.Native.Nat.{ℕ, zero, suc, _+_, _-_, _*_, _≤_, _<_}
 use mathlib.Core.Path.{_≡_, refl, sym, ap, _∙_}
 use mathlib.Core.Logic.{_≢_}
@@ -17,8 +17,8 @@ use Rattle.protocol.specs.Tables.{Tables, tables, fresh, holdsAt, holds, sharin
 use Rattle.protocol.specs.Rules.{writtenBack, emptied, filled, saved, saveCycles, evicted, owner, released, fetched, obtained, fetchCycles, writeBackCycles, payer, updatedCopies, broadcast, charged, written, updateCycles}
 use Rattle.protocol_types.specs.Conditions.{Valid, AllValid, requestLimit}
 use Rattle.protocol.specs.Requests.{served, bill}
-use Rattle.protocol.specs.Accounts.{cycles}
-use Rattle.protocol.specs.Engines.{spent}
+use Rattle.protocol.specs.Accounts.{plus, cycles, freshAccount, billOf}
+use Rattle.protocol.specs.Engines.{run, spent}
 use Rattle.protocol.specs.Runs.{engine}
 use Rattle.protocol.specs.Rival.{Rival, rival, noCopies, keepsAt, keeps, shared, unmarked, rivalFetched, rivalDropped, rivalCompleted, completionCycles, moveRefusal, completionRefusal, Legal, costs}
 use Rattle.competitive.specs.Claims.{TightList}
@@ -27,11 +27,13 @@ use Rattle.protocol_types.specs.declared.Variable.{Variable}
 use Rattle.protocol_types.specs.declared.Block.{Block}
 use Rattle.protocol_types.specs.declared.Request.{Request}
 use Rattle.protocol_types.specs.declared.Operation.the-variants.{Read, Write}
+use Rattle.protocol_types.specs.declared.Bill.{Bill}
 use Rattle.protocol_types.specs.declared.RunAnswer.{RunAnswer}
 use Rattle.protocol_types.specs.declared.Entry.{Entry}
 use Rattle.protocol_types.specs.declared.Entry.the-variants.{Fetch, Drop, Complete}
 use Rattle.protocol_types.proofs.Laws.{Same, same, apart, same?, Under, under, over, under?, choice, other-found, at-set-same, at-set-other, at-set-zero, at-zeros}
 use Rattle.protocol_types.proofs.Board.{setup-fits, block-path, slot-lt, slot-inj}
+use Rattle.protocol.proofs.Accounts.{bill-path}
 use Rattle.protocol.proofs.Holding.{holdsAt-true, true-holdsAt, sharing-some, payer-found, owner-found}
 use Rattle.protocol_types.proofs.Conditions.{variable-passes}
 use Rattle.competitive.proofs.Bound.{keepsAt-true, true-keepsAt}
@@ -71,6 +73,10 @@ scheduleRounds f (suc k) = Drop 1 block0 ∷ replicate f Complete ++ fetchFor 1 
 
 unfoldable pub tightSchedule : Setup → ℕ → List Entry
 tightSchedule s k = fetchFor 0 ∷ Complete ∷ fetchFor 1 ∷ Complete ∷ scheduleRounds (fetchPrice s) k
+
+-- x cycles of fetches and y of updates
+abbrev costing : ℕ → ℕ → Bill
+costing x y = record { fetch = x; «write_back» = 0; update = y }
 
 -- the slots of variable 0's block at processors 0 and 1
 abbrev slot0 : Setup → ℕ
@@ -270,22 +276,24 @@ module _ (s : Setup) (ok : Fits s) (two : 2 ≤ s .processors) where
   -- what the engine spends
 
   writes-spent : (n m : ℕ) (qs : List Request)
-      → cycles (spent (engine s) (zeroed s (pair (n + m))) (replicate n write0 ++ qs)) ≡ n + cycles (spent (engine s) (zeroed s (pair m)) qs)
-  writes-spent zero m qs = let e : 0 + m ≡ m = omega arith in rw e (omega arith)
+      → spent (engine s) (zeroed s (pair (n + m))) (replicate n write0 ++ qs) ≡ plus (costing 0 n) (spent (engine s) (zeroed s (pair m)) qs)
+  writes-spent zero m qs = let e : 0 + m ≡ m = omega arith in rw e (bill-path (omega arith) (omega arith) (omega arith))
   writes-spent (suc n) m qs =
       let e : suc n + m - 1 ≡ n + m = omega arith in
-      rw (write-bill (suc n + m) (omega arith), write-served (suc n + m) (omega arith), e) (omega (arith, writes-spent n m qs))
+      rw (write-bill (suc n + m) (omega arith), write-served (suc n + m) (omega arith), e, writes-spent n m qs)
+      (bill-path (omega arith) (omega arith) (omega arith))
 
-  rounds-spent : (k : ℕ) → cycles (spent (engine s) (zeroed s (pair (fetchPrice s))) (rounds (fetchPrice s) k)) ≡ 2 * (fetchPrice s * k)
-  rounds-spent zero = omega arith
+  rounds-spent : (k : ℕ) → spent (engine s) (zeroed s (pair (fetchPrice s))) (rounds (fetchPrice s) k) ≡ costing (fetchPrice s * k) (fetchPrice s * k)
+  rounds-spent zero = bill-path (omega arith) (omega arith) (omega arith)
   rounds-spent (suc k) =
       let f : ℕ = fetchPrice s in
       let e : f ≡ f + 0 = omega arith in
-      let g : cycles (spent (engine s) (zeroed s (pair 0)) (readBy 1 ∷ rounds f k)) ≡ f + 2 * (f * k) =
-      rw (read-bill s (pair 0) 1 (at-both-1 (fetchPrice s) 0), reread-served) (omega (arith, rounds-spent k)) in
-      ap (λ x. cycles (spent (engine s) (zeroed s (pair x)) (rounds f (suc k)))) e ∙ writes-spent f 0 (readBy 1 ∷ rounds f k) ∙ omega (arith, g, mul-suc f k)
+      let g : spent (engine s) (zeroed s (pair 0)) (readBy 1 ∷ rounds f k) ≡ plus (costing f 0) (costing (f * k) (f * k)) =
+      rw (read-bill s (pair 0) 1 (at-both-1 (fetchPrice s) 0), reread-served, rounds-spent k) in
+      ap (λ x. spent (engine s) (zeroed s (pair x)) (rounds f (suc k))) e ∙ writes-spent f 0 (readBy 1 ∷ rounds f k)
+      ∙ ap (plus (costing 0 f)) g ∙ bill-path (omega (arith, mul-suc f k)) (omega arith) (omega (arith, mul-suc f k))
 
-  pub tight-spent : (k : ℕ) → cycles (spent (engine s) (fresh s) (tight s k)) ≡ 2 * fetchPrice s + 2 * (fetchPrice s * k)
+  pub tight-spent : (k : ℕ) → spent (engine s) (fresh s) (tight s k) ≡ costing (2 * fetchPrice s + fetchPrice s * k) (fetchPrice s * k)
   unfolding tight fresh
   tight-spent k =
       let e1 = at-only-1 (fetchPrice s) in
@@ -294,15 +302,16 @@ module _ (s : Setup) (ok : Fits s) (two : 2 ≤ s .processors) where
         read-served s (zeros (slots s)) 0 (at-zeros (slots s) (slot0 s)),
         read-bill s (only0 s (fetchPrice s)) 1 e1,
         read-served s (only0 s (fetchPrice s)) 1 e1,
+        rounds-spent k,
       )
-      (omega (arith, rounds-spent k))
+      (bill-path (omega arith) (omega arith) (omega arith))
 
 -- ---- the schedule
 
--- a schedule is legal, and its cost is c
+-- a schedule is legal, and costs c, all of it for fetches
 pub record Plays (s : Setup) (r : Rival) (qs : List Request) (es : List Entry) (c : ℕ) : Type 0 where
   pub legal : Legal s r qs es
-  pub costs : cycles (costs s r qs es) ≡ c
+  pub costs : costs s r qs es ≡ costing c 0
 
 pub rival-path : {r q : Rival} → r .blocks ≡ q .blocks → r .held ≡ q .held → r .marks ≡ q .marks → r ≡ q
 rival-path a b c = λ i. record { blocks = a i; held = b i; marks = c i }
@@ -316,7 +325,7 @@ module _ (s : Setup) (ok : Fits s) where
   unfolding moveRefusal
   plays-fetch r i qs es c h e p = record {
     legal = (rw (lt-ltb i (s .processors) h, lt-ltb 0 (s .blocks) (ok .some-block), e) refl, p .legal);
-    costs = omega (arith, p .costs);
+    costs = rw (p .costs) (bill-path (omega arith) (omega arith) (omega arith));
   }
 
   plays-drop : (r : Rival) (qs : List Request) (es : List Entry) (c : ℕ) → 1 < s .processors → keeps s r 1 block0 ≡ true → at (r .marks) (slot1 s) ≡ 0
@@ -324,7 +333,7 @@ module _ (s : Setup) (ok : Fits s) where
   unfolding moveRefusal
   plays-drop r qs es c h k e p = record {
     legal = (rw (lt-ltb 1 (s .processors) h, lt-ltb 0 (s .blocks) (ok .some-block), k, e) refl, p .legal);
-    costs = omega (arith, p .costs);
+    costs = rw (p .costs) (bill-path (omega arith) (omega arith) (omega arith));
   }
 
   plays-read : (r : Rival) (i : ℕ) (qs : List Request) (es : List Entry) (c : ℕ) → i < s .processors → keeps s r i block0 ≡ true
@@ -332,7 +341,7 @@ module _ (s : Setup) (ok : Fits s) where
   unfolding completionRefusal completionCycles blockOf
   plays-read r i qs es c h k p = record {
     legal = (rw (lt-ltb i (s .processors) h, variable-passes s variable0 _ block-0, zero-div (s .words), k) refl, p .legal);
-    costs = omega (arith, p .costs);
+    costs = rw (p .costs) (bill-path (omega arith) (omega arith) (omega arith));
   }
 
   plays-write : (r : Rival) (qs : List Request) (es : List Entry) (c : ℕ) → keeps s r 0 block0 ≡ true → shared s r 0 block0 ≡ false
@@ -340,7 +349,7 @@ module _ (s : Setup) (ok : Fits s) where
   unfolding completionRefusal completionCycles blockOf
   plays-write r qs es c k n p = record {
     legal = (rw (lt-ltb 0 (s .processors) (ok .some-processor), variable-passes s variable0 _ block-0, zero-div (s .words), k) refl, p .legal);
-    costs = rw (zero-div (s .words), n) (omega (arith, p .costs));
+    costs = rw (zero-div (s .words), n, p .costs) (bill-path (omega arith) (omega arith) (omega arith));
   }
 
 module _ (s : Setup) (ok : Fits s) (two : 2 ≤ s .processors) where
@@ -404,7 +413,7 @@ module _ (s : Setup) (ok : Fits s) (two : 2 ≤ s .processors) where
   plays-rounds : (k : ℕ) (m : List ℕ) → at m (slot1 s) ≡ 0
       → Plays s (doubled 1 m) (rounds (fetchPrice s) k) (scheduleRounds (fetchPrice s) k) (fetchPrice s * k)
   unfolding rivalCompleted
-  plays-rounds zero m e = record { legal = refl; costs = omega arith }
+  plays-rounds zero m e = record { legal = refl; costs = bill-path (omega arith) (omega arith) (omega arith) }
   plays-rounds (suc k) m e =
       let f : ℕ = fetchPrice s in
       let d = rivalDropped-1 m in
@@ -498,6 +507,11 @@ module _ (s : Setup) (accepted : setupRefusal s ≡ noRefusal) (enough : 2 ≤ s
   few-tight : length (tight s k) ≤ requestLimit
   few-tight = omega (arith, length-tight s k)
 
+  spends-each : (vs : List ℕ) → length vs ≡ length (tight s k)
+      → billOf (run (engine s) (fresh s) freshAccount (tight s k) vs .account) ≡ costing (2 * fetchPrice s + fetchPrice s * k) (fetchPrice s * k)
+  spends-each vs e =
+      rw (leaves-whole s accepted (tight s k) valid few-tight vs e .account, tight-spent s ok enough k) (bill-path (omega arith) (omega arith) (omega arith))
+
   pub tight-list : TightList s k
   tight-list = record {
     requests = tight s k;
@@ -505,7 +519,9 @@ module _ (s : Setup) (accepted : setupRefusal s ≡ noRefusal) (enough : 2 ≤ s
     many = length-tight s k;
     whole = λ vs e. ap (λ (r : RunAnswer). r .refusal) (answers-whole s accepted (tight s k) valid few-tight vs e);
     count = λ vs e. ap (λ (r : RunAnswer). r .taken) (answers-whole s accepted (tight s k) valid few-tight vs e);
-    spends = λ vs e. rw (leaves-whole s accepted (tight s k) valid few-tight vs e .account) (omega (arith, tight-spent s ok enough k));
+    spends = λ vs e. ap cycles (spends-each vs e) ∙ omega arith;
+    spends-each = spends-each;
     legal = tight-plays s ok enough k .legal;
-    pays = tight-plays s ok enough k .costs;
+    pays = ap cycles (tight-plays s ok enough k .costs) ∙ omega arith;
+    pays-each = tight-plays s ok enough k .costs;
   }

@@ -2,20 +2,20 @@
 use Prim.Native.Nat.{ℕ, _+_, _*_, _≤_}
 use mathlib.Core.Path.{_≡_}
 use mathlib.Core.Logic.{_≢_}
-use mathlib.Core.Bool.{true, false, _&&_, cond}
+use mathlib.Core.Bool.{Bool, true, false, _&&_, cond}
 use mathlib.Core.List.{List, [], _∷_}
 use lib.ListN.{length, take}
 use lib.Dec.{eqb}
 use Rattle.protocol_types.specs.Lists.{at}
 use Rattle.protocol_types.specs.Refusals.{noRefusal}
-use Rattle.protocol_types.specs.Board.{setupRefusal, fetchPrice, variables}
+use Rattle.protocol_types.specs.Board.{setupRefusal, fetchPrice, writeBackPrice, variables}
 use Rattle.protocol.specs.Tables.{Tables, sized, fresh}
 use Rattle.protocol.specs.Soundness.{sound}
 use Rattle.protocol_types.specs.Conditions.{requestLimit}
-use Rattle.protocol.specs.Accounts.{cycles, freshAccount, cyclesOf, possible}
+use Rattle.protocol.specs.Accounts.{cycles, fetchAndUpdate, freshAccount, entered, cyclesOf, billOf, possible}
 use Rattle.protocol.specs.Engines.{answered, run, Run, State, outcomes, runs, takenAll, spent, expectedAll, valuesOf, Never20Or21}
 use Rattle.protocol.specs.Runs.{engine, opening}
-use Rattle.protocol.specs.Rival.{Rival, noCopies, Legal, costs, lastCopies}
+use Rattle.protocol.specs.Rival.{Rival, noCopies, played, left, cost, Legal, costs, lastCopies}
 use Rattle.protocol.specs.Pricer.{accepted, verdict, priceRefusal, price, priceTables}
 use Rattle.protocol.specs.Generator.{generateRefusal, generated}
 use Rattle.competitive.specs.EngineSchedule.{EngineIsRival}
@@ -27,6 +27,7 @@ use Rattle.protocol_types.specs.declared.Operation.the-variants.{Read, Write}
 use Rattle.protocol_types.specs.declared.Bill.{Bill}
 use Rattle.protocol_types.specs.declared.Account.{Account}
 use Rattle.protocol_types.specs.declared.Entry.{Entry}
+use Rattle.protocol_types.specs.declared.Entry.the-variants.{Fetch, WriteBack, Drop, Complete, CompleteByBroadcast}
 use Rattle.protocol_types.specs.declared.PriceAnswer.the-variants.{Accepted, Refused}
 
 -- ---- demand 3
@@ -41,7 +42,58 @@ pub record Claim (s : Setup) (a : Account) (rs : List (Run Request)) : Type 0 wh
   pub halves : (es : List Entry) → Legal s (noCopies s) (takenAll (engine s) (a .requests) rs) es
       → cycles (spent (engine s) (fresh s) (takenAll (engine s) (a .requests) rs)) ≤ 2 * cycles (costs s (noCopies s) (takenAll (engine s) (a .requests) rs) es)
 
--- how near to 2 the factor comes: a list of k × (f + 1) + 2 requests and a schedule for it, which cost 2f + 2fk and 2f + fk
+-- ---- demand 3, kind by kind (document 02, P4)
+
+-- theorem 4.2 of source document 000: c is what the engine spends, d what a schedule costs
+pub record SplitBill (c d : Bill) : Type 0 where
+  -- "the engine's fetch cycles are at most the rival's fetch plus update cycles"
+  pub fetches : c .fetch ≤ fetchAndUpdate d
+  -- "The engine's update plus write-back cycles are at most that same sum."
+  pub updates : c .update + c .«write_back» ≤ fetchAndUpdate d
+
+-- the same list of runs, account and requests taken as in `Claim`, which follows from it
+pub record SplitClaim (s : Setup) (a : Account) (rs : List (Run Request)) : Type 0 where
+  -- each count of the account grows by exactly what the rules charge of its kind, and its requests by the number taken
+  pub grows : runs (engine s) (opening s a) rs .account
+      ≡ entered a (length (takenAll (engine s) (a .requests) rs)) (spent (engine s) (fresh s) (takenAll (engine s) (a .requests) rs))
+  -- "for every legal rival"
+  pub splits : (es : List Entry) → Legal s (noCopies s) (takenAll (engine s) (a .requests) rs) es
+      → SplitBill (spent (engine s) (fresh s) (takenAll (engine s) (a .requests) rs)) (costs s (noCopies s) (takenAll (engine s) (a .requests) rs) es)
+
+abbrev pub isCompletion : Entry → Bool
+isCompletion (Fetch i b) = false
+isCompletion (WriteBack i b) = false
+isCompletion (Drop i b) = false
+isCompletion Complete = true
+isCompletion CompleteByBroadcast = true
+
+-- "what its completions cost": the cycles, of any kind, of the entries that complete a request
+abbrev pub completionCosts : Setup → Rival → List Request → List Entry → ℕ
+completionCosts s r qs [] = 0
+completionCosts s r qs (e ∷ es) = cond (isCompletion e) (cycles (cost s r qs e)) 0 + completionCosts s (played s r qs e) (left qs e) es
+
+abbrev pub isWriteBack : Entry → Bool
+isWriteBack (Fetch i b) = false
+isWriteBack (WriteBack i b) = true
+isWriteBack (Drop i b) = false
+isWriteBack Complete = false
+isWriteBack CompleteByBroadcast = false
+
+-- how many write-backs a schedule has
+abbrev pub writeBacks : List Entry → ℕ
+writeBacks [] = 0
+writeBacks (e ∷ es) = cond (isWriteBack e) 1 0 + writeBacks es
+
+-- the kinds of a schedule's cost, legal or not
+pub record CostKinds (s : Setup) (qs : List Request) (es : List Entry) : Type 0 where
+  -- its update cycles are what its completions cost
+  pub completions : costs s (noCopies s) qs es .update ≡ completionCosts s (noCopies s) qs es
+  -- its write-back cycles are g for each write-back: the price less these is its fetch plus update cycles
+  pub write-backs : costs s (noCopies s) qs es .«write_back» ≡ writeBackPrice s * writeBacks es
+
+-- ---- how near the bounds come
+
+-- a list of k × (f + 1) + 2 requests and a schedule for it, which cost 2f + 2fk and 2f + fk: how near to 2 the factor comes
 pub record TightList (s : Setup) (k : ℕ) : Type 0 where
   pub requests : List Request
   pub schedule : List Entry
@@ -51,12 +103,20 @@ pub record TightList (s : Setup) (k : ℕ) : Type 0 where
   pub count : (vs : List ℕ) → length vs ≡ length requests → run (engine s) (fresh s) freshAccount requests vs .answer .taken ≡ length requests
   pub spends : (vs : List ℕ) → length vs ≡ length requests
       → cyclesOf (run (engine s) (fresh s) freshAccount requests vs .account) ≡ 2 * fetchPrice s + 2 * (fetchPrice s * k)
+  -- 2f + fk of them for fetches, fk for updates
+  pub spends-each : (vs : List ℕ) → length vs ≡ length requests
+      → billOf (run (engine s) (fresh s) freshAccount requests vs .account)
+      ≡ record { fetch = 2 * fetchPrice s + fetchPrice s * k; «write_back» = 0; update = fetchPrice s * k }
   -- the schedule is legal for it, at exactly 2f + fk
   pub legal : Legal s (noCopies s) requests schedule
   pub pays : cycles (costs s (noCopies s) requests schedule) ≡ 2 * fetchPrice s + fetchPrice s * k
+  -- all of it for fetches: the first bound of `SplitBill` is met with equality, the second is missed by 2f
+  pub pays-each : costs s (noCopies s) requests schedule ≡ record { fetch = 2 * fetchPrice s + fetchPrice s * k; «write_back» = 0; update = 0 }
 
 pub record Demand3 (s : Setup) : Type 0 where
   pub bounded : (a : Account) → possible s a ≡ true → (rs : List (Run Request)) → Claim s a rs
+  pub split : (a : Account) → possible s a ≡ true → (rs : List (Run Request)) → SplitClaim s a rs
+  pub kinds : (qs : List Request) (es : List Entry) → CostKinds s qs es
   pub tight : 2 ≤ s .processors → (k : ℕ) → k * (fetchPrice s + 1) + 2 ≤ requestLimit → TightList s k
 
 -- ---- demand 2: "From fresh tables a read supplies the last value written, or 0." No cache is spoken of

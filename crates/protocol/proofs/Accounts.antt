@@ -15,6 +15,9 @@ use Rattle.protocol_types.proofs.Laws.{both-true, and-true}
 pub account-path : {a c : Account} → a .requests ≡ c .requests → a .fetch ≡ c .fetch → a .«write_back» ≡ c .«write_back» → a .update ≡ c .update → a ≡ c
 account-path e f g h = λ i. record { requests = e i; fetch = f i; «write_back» = g i; update = h i }
 
+pub bill-path : {a c : Bill} → a .fetch ≡ c .fetch → a .«write_back» ≡ c .«write_back» → a .update ≡ c .update → a ≡ c
+bill-path f g h = λ i. record { fetch = f i; «write_back» = g i; update = h i }
+
 -- ---- what requests can cost
 
 module _ (s : Setup) where

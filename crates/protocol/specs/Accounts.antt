@@ -19,6 +19,10 @@ plus c d = record { fetch = c .fetch + d .fetch; «write_back» = c .«write_bac
 abbrev pub cycles : Bill → ℕ
 cycles c = c .fetch + c .«write_back» + c .update
 
+-- "fetch plus update cycles" (document 02, P4)
+abbrev pub fetchAndUpdate : Bill → ℕ
+fetchAndUpdate c = c .fetch + c .update
+
 -- ---- accounts: "a record of requests taken and of fetch, write-back and update cycles"
 
 -- "a fresh account is all zeros"

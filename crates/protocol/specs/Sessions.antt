@@ -8,10 +8,10 @@ use lib.Seq.{sets}
 use lib.Dec.{eqb}
 use Rattle.protocol_types.specs.Board.{slots}
 use Rattle.protocol.specs.Tables.{Tables, tables, fresh}
-use Rattle.protocol.specs.Accounts.{freshAccount, entered}
+use Rattle.protocol.specs.Accounts.{cycles, fetchAndUpdate, freshAccount, entered, billOf}
 use Rattle.protocol.specs.Engines.{answered, Outcome, run}
 use Rattle.protocol.specs.Runs.{startRefusal, started, looked, engine}
-use Rattle.protocol.specs.Rival.{Rival, rival}
+use Rattle.protocol.specs.Rival.{Rival, rival, noCopies, costs}
 use Rattle.protocol.specs.Pricer.{priceRefusal, price, priceTables, PriceNumbers, numbered, inNumbers}
 use Rattle.protocol.specs.Generator.{draws, generateRefusal, generated}
 use Rattle.protocol_types.specs.declared.Setup.{Setup}
@@ -133,6 +133,9 @@ sameTables t u =
 abbrev pub sameAccount : Account → Account → Bool
 sameAccount a c = eqb (a .requests) (c .requests) && eqb (a .fetch) (c .fetch) && eqb (a .«write_back») (c .«write_back») && eqb (a .update) (c .update)
 
+abbrev pub sameBill : Bill → Bill → Bool
+sameBill c d = eqb (c .fetch) (d .fetch) && eqb (c .«write_back») (d .«write_back») && eqb (c .update) (d .update)
+
 abbrev pub sameAnswer : RunAnswer → RunAnswer → Bool
 sameAnswer a c = eqb (a .taken) (c .taken) && eqb (a .refusal) (c .refusal) && eqb (a .place) (c .place)
 
@@ -200,12 +203,24 @@ pub record Quote : Type 0 where
   pub held : List ℕ
   pub marks : List ℕ
 
+-- a legal schedule for requests, kind by kind
+pub record Split : Type 0 where
+  pub setup : Setup
+  pub requests : List Request
+  pub entries : List Entry
+  -- what one run from fresh tables spends on the requests, and what the schedule costs
+  pub spends : Bill
+  pub pays : Bill
+  -- the schedule's fetch plus update cycles
+  pub sum : ℕ
+
 pub data Row : Type 0 where
   session : Session → Row
   -- tables that an empty run meets, and its refusal
   tabled : Setup → Tables → ℕ → Row
   lent : Lent → Row
   quote : Quote → Row
+  split : Split → Row
   -- what the pricer checks before the first entry: block numbers, held marks and dirty marks of these lengths, n entries, m requests, and the refusal
   checked : Setup → ℕ → ℕ → ℕ → ℕ → ℕ → ℕ → Row
   -- a seed and its first draws
@@ -275,6 +290,15 @@ quotePasses w =
     sameNumbers (inNumbers (price (w .setup) (sevens (w .setup)) (w .requests) (w .entries))) (numbered (w .number) (w .place) (w .cost))
     && sameRival r (rival (w .blocks) (w .held) (w .marks))
 
+unfoldable pub splitPasses : Split → Bool
+splitPasses w =
+    let s : Setup = w .setup in
+    let o : Outcome Tables = run (engine s) (fresh s) freshAccount (w .requests) (replicate (length (w .requests)) 9) in
+    let c : Bill = costs s (noCopies s) (w .requests) (w .entries) in
+    sameAnswer (o .answer) (answered (length (w .requests)) 0 0) && sameBill (billOf (o .account)) (w .spends)
+    && sameNumbers (inNumbers (price s (sevens s) (w .requests) (w .entries))) (numbered 0 0 (cycles (w .pays)))
+    && sameBill c (w .pays) && eqb (fetchAndUpdate c) (w .sum)
+
 -- and a refusal of an empty schedule leaves the tables
 abbrev pub checkedPasses : Setup → Rival → ℕ → ℕ → ℕ → Bool
 checkedPasses s r n m x =
@@ -295,6 +319,7 @@ passes (session w) = sessionPasses w
 passes (tabled s t n) = tabledPasses s t n
 passes (lent w) = lentPasses w
 passes (quote w) = quotePasses w
+passes (split w) = splitPasses w
 passes (checked s b h k n m x) = checkedPasses s (rival (replicate b 7) (replicate h 7) (replicate k 7)) n m x
 passes (seedDraws seed ds) = sameList (draws seed (length ds)) ds
 passes (generator s seed x qs) = generatorPasses s seed x qs
@@ -2185,4 +2210,86 @@ rows =
     ∷ taken usual 2463534242 8
     ∷ taken (pricedBoard 3 2 3 5 5 4) 2147483648 12
     ∷ taken (board 1 1 1 1) 4294967295 4
+    -- ---- document 02, P4
+    -- two rounds of f writes and a read: the fetch cycles are the schedule's fetch plus update cycles, 2f + 2f; update and write-back cycles are 2f below it
+    ∷ split (record {
+      setup = cheapFetch;
+      requests = read 0 4 ∷ read 1 4 ∷ write 0 4 4 ∷ write 0 4 5 ∷ write 0 4 6 ∷ read 1 4 ∷ write 0 4 7 ∷ write 0 4 8 ∷ write 0 4 9 ∷ read 1 4 ∷ [];
+      entries = fetchEntry 0 1 ∷ Complete ∷ fetchEntry 1 1 ∷ Complete ∷ dropEntry 1 1 ∷ Complete ∷ Complete ∷ Complete ∷ fetchEntry 1 1 ∷ Complete ∷ dropEntry 1 1 ∷ Complete ∷ Complete ∷ Complete ∷ fetchEntry 1 1 ∷ Complete ∷ [];
+      spends = cost 12 0 6;
+      pays = cost 12 0 0;
+      sum = 12;
+    })
+    -- a schedule that keeps both copies: without its updates it would pay less than the fetch cycles
+    ∷ split (record {
+      setup = cheapFetch;
+      requests = read 0 4 ∷ read 1 4 ∷ write 0 4 4 ∷ write 0 4 5 ∷ write 0 4 6 ∷ read 1 4 ∷ write 0 4 7 ∷ write 0 4 8 ∷ write 0 4 9 ∷ read 1 4 ∷ [];
+      entries = fetchEntry 0 1 ∷ fetchEntry 1 1 ∷ Complete ∷ Complete ∷ Complete ∷ Complete ∷ Complete ∷ Complete ∷ Complete ∷ Complete ∷ Complete ∷ Complete ∷ [];
+      spends = cost 12 0 6;
+      pays = cost 6 0 6;
+      sum = 12;
+    })
+    -- without the last read: update and write-back cycles are f below the schedule's fetch plus update cycles
+    ∷ split (record {
+      setup = cheapFetch;
+      requests = read 0 4 ∷ read 1 4 ∷ write 0 4 4 ∷ write 0 4 5 ∷ write 0 4 6 ∷ read 1 4 ∷ write 0 4 7 ∷ write 0 4 8 ∷ write 0 4 9 ∷ [];
+      entries = fetchEntry 0 1 ∷ Complete ∷ fetchEntry 1 1 ∷ Complete ∷ dropEntry 1 1 ∷ Complete ∷ Complete ∷ Complete ∷ fetchEntry 1 1 ∷ Complete ∷ dropEntry 1 1 ∷ Complete ∷ Complete ∷ Complete ∷ [];
+      spends = cost 9 0 6;
+      pays = cost 9 0 0;
+      sum = 9;
+    })
+    -- writes to two blocks of one line in turn: the schedule's write-backs are not in the sum; fetch and write-back cycles together are above it
+    ∷ split (record {
+      setup = dearFetch;
+      requests = write 0 2 4 ∷ write 0 6 5 ∷ write 0 2 6 ∷ [];
+      entries = fetchEntry 0 1 ∷ Complete ∷ writeBackEntry 0 1 ∷ dropEntry 0 1 ∷ fetchEntry 0 3 ∷ Complete ∷ writeBackEntry 0 3 ∷ dropEntry 0 3 ∷ fetchEntry 0 1 ∷ Complete ∷ [];
+      spends = cost 15 6 0;
+      pays = cost 15 6 0;
+      sum = 15;
+    })
+    -- the same with g equal to f: write-back cycles are f below the sum
+    ∷ split (record {
+      setup = pricedBoard 1 1 2 3 4 4;
+      requests = write 0 0 4 ∷ write 0 2 5 ∷ write 0 0 6 ∷ [];
+      entries = fetchEntry 0 0 ∷ Complete ∷ writeBackEntry 0 0 ∷ dropEntry 0 0 ∷ fetchEntry 0 1 ∷ Complete ∷ writeBackEntry 0 1 ∷ dropEntry 0 1 ∷ fetchEntry 0 0 ∷ Complete ∷ [];
+      spends = cost 12 8 0;
+      pays = cost 12 8 0;
+      sum = 12;
+    })
+    -- the engine spends cycles of all three kinds
+    ∷ split (record {
+      setup = dearFetch;
+      requests = write 1 2 4 ∷ read 0 6 ∷ write 1 6 5 ∷ write 1 6 6 ∷ write 1 6 7 ∷ [];
+      entries = fetchEntry 1 1 ∷ Complete ∷ fetchEntry 0 3 ∷ Complete ∷ writeBackEntry 1 1 ∷ dropEntry 1 1 ∷ dropEntry 0 3 ∷ fetchEntry 1 3 ∷ Complete ∷ Complete ∷ Complete ∷ [];
+      spends = cost 15 3 3;
+      pays = cost 15 3 0;
+      sum = 15;
+    })
+    -- so does a schedule
+    ∷ split (record {
+      setup = dearFetch;
+      requests = write 1 6 5 ∷ write 1 6 4 ∷ [];
+      entries = fetchEntry 1 3 ∷ Complete ∷ fetchEntry 0 3 ∷ Complete ∷ writeBackEntry 1 3 ∷ [];
+      spends = cost 5 0 0;
+      pays = cost 10 3 1;
+      sum = 11;
+    })
+    -- completions by broadcast are updates, where the block has one holder too
+    ∷ split (record {
+      setup = dearFetch;
+      requests = write 1 6 5 ∷ write 1 6 4 ∷ [];
+      entries = fetchEntry 1 3 ∷ CompleteByBroadcast ∷ CompleteByBroadcast ∷ [];
+      spends = cost 5 0 0;
+      pays = cost 5 0 2;
+      sum = 7;
+    })
+    -- no request, no cycle; a schedule may pay all the same
+    ∷ split (record {
+      setup = dearFetch;
+      requests = [];
+      entries = fetchEntry 1 3 ∷ writeBackEntry 1 3 ∷ [];
+      spends = cost 0 0 0;
+      pays = cost 5 3 0;
+      sum = 5;
+    })
     ∷ []

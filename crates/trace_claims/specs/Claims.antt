@@ -2,12 +2,14 @@
 use Prim.Native.Nat.{ℕ, _*_, _≤_}
 use mathlib.Core.Path.{_≡_}
 use mathlib.Core.List.{List, [], _∷_}
+use lib.ListN.{length}
 use Rattle.protocol_types.specs.Refusals.{firstOf}
 use Rattle.protocol.specs.Tables.{Tables, fresh}
-use Rattle.protocol.specs.Accounts.{freshAccount, cycles, cyclesOf}
+use Rattle.protocol.specs.Accounts.{freshAccount, cycles, cyclesOf, billOf}
 use Rattle.protocol.specs.Engines.{Outcome, run, Run, takenAll, spent}
 use Rattle.protocol.specs.Runs.{engine}
 use Rattle.protocol.specs.Rival.{noCopies, Legal, costs}
+use Rattle.competitive.specs.Claims.{SplitBill}
 use Rattle.protocol_types.specs.declared.Request.{Request}
 use Rattle.protocol_types.specs.declared.Entry.{Entry}
 use Rattle.trace_lines.specs.Trace.{traceSetup, ended, report}
@@ -35,7 +37,14 @@ abbrev pub traceTaken : List ℕ → List ℕ → List Request
 traceTaken bs vs = takenAll (engine traceSetup) 0 (traceRun bs vs ∷ [])
 
 pub record ReportClaim (bs vs : List ℕ) : Type 0 where
-  -- the report's cycles are what the rules charge for the requests taken
+  -- the report's requests are those taken
+  pub counts : report bs .account .requests ≡ length (traceTaken bs vs)
+  -- its fetch, write-back and update cycles are, each, what the rules charge of that kind for them
+  pub bill : billOf (report bs .account) ≡ spent (engine traceSetup) (fresh traceSetup) (traceTaken bs vs)
+  -- and are bounded for every legal schedule (document 02, P4)
+  pub splits : (es : List Entry) → Legal traceSetup (noCopies traceSetup) (traceTaken bs vs) es
+      → SplitBill (billOf (report bs .account)) (costs traceSetup (noCopies traceSetup) (traceTaken bs vs) es)
+  -- together they are what the rules charge
   pub spends : cyclesOf (report bs .account) ≡ cycles (spent (engine traceSetup) (fresh traceSetup) (traceTaken bs vs))
   -- twice the cost of every legal schedule is at least that
   pub halves : (es : List Entry) → Legal traceSetup (noCopies traceSetup) (traceTaken bs vs) es
