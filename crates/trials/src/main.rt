@@ -71,6 +71,11 @@ fn print_sums(cells: &Cells) {
         state::COMPARED,
     );
     state::print_cell(cells, b"of them cheaper than the engine ", state::CHEAPER);
+    state::print_cell(
+        cells,
+        b"of them with fetch and update cycles equal to its fetch cycles ",
+        state::MET,
+    );
     state::print_cell(cells, b"differences ", state::DIFFERENCES);
 }
 

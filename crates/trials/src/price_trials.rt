@@ -16,6 +16,7 @@ use crate::run_trials;
 use crate::run_trials::Judged;
 use crate::run_trials::Plan;
 use crate::setups;
+use protocol_types::Account;
 use protocol_types::NO_REFUSAL;
 use protocol_types::Setup;
 use trials_cells::cells::Cells;
@@ -272,26 +273,35 @@ fn run_fresh(cells: &mut Cells, setup: Setup, n: u32) -> Judged {
     run_trials::run_both(cells, plan)
 }
 
-// All n requests are taken, and twice the schedule's cost is at least the engine's bill: what is otherwise; 0 if nothing.
-fn bound_differs(taken: u32, n: u32, bill: u32, cost: u32) -> u32 {
-    if taken != n {
+// All n requests are taken, twice the schedule's cost is at least the engine's bill, and its cost but for its write-backs is at least the
+// engine's fetch cycles, and its update and write-back cycles: what is otherwise; 0 if nothing.
+fn bound_differs(account: Account, n: u32, play: Play) -> u32 {
+    if account.requests != n {
         return state::TAKEN;
     }
-    if bill > product(cost, 2) {
+    if run_trials::cycles(account) > product(play.cost, 2) {
         return state::FACTOR;
+    }
+    if sum(account.fetch, play.write_back) > play.cost {
+        return state::SPLIT;
+    }
+    if sum(sum(account.update, account.write_back), play.write_back) > play.cost {
+        return state::SPLIT;
     }
     0
 }
 
 // The engine's bill for n requests beside the cost of a legal schedule for them. The account is the model's, which the
 // entry's was compared with.
-fn note_compared(cells: &mut Cells, judged: Judged, n: u32, cost: u32, case: u32) {
+fn note_compared(cells: &mut Cells, judged: Judged, n: u32, play: Play, case: u32) {
     let account = judged.account;
-    let bill = run_trials::cycles(account);
     run_trials::note_run(cells, judged, setups::fresh_account(), case);
     state::add(cells, state::COMPARED, 1);
-    state::add(cells, state::CHEAPER, (bill > cost) as u32);
-    let what = bound_differs(account.requests, n, bill, cost);
+    let cheaper = run_trials::cycles(account) > play.cost;
+    state::add(cells, state::CHEAPER, cheaper as u32);
+    let met = sum(account.fetch, play.write_back) == play.cost;
+    state::add(cells, state::MET, met as u32);
+    let what = bound_differs(account, n, play);
     state::judge(cells, state::PRICE, case, what);
 }
 
@@ -367,7 +377,7 @@ fn judge_schedule(cells: &mut Cells, question: Question, m: u32, case: u32) {
         return;
     }
     let judged = run_fresh(cells, right, question.n);
-    note_compared(cells, judged, question.n, play.cost, case);
+    note_compared(cells, judged, question.n, play, case);
 }
 
 pub(crate) fn price_case(cells: &mut Cells, case: u32) {

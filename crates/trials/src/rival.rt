@@ -54,9 +54,10 @@ pub struct Move {
     pub block: u32,
 }
 
-// A schedule so far: its cost, the requests completed, the refusal number or 0, and its place.
+// A schedule so far: its cost, how much of that is for write-backs, the requests completed, the refusal number or 0, and its place.
 pub struct Play {
     pub cost: u32,
+    pub write_back: u32,
     pub done: u32,
     pub refusal: u32,
     pub place: u32,
@@ -65,6 +66,7 @@ pub struct Play {
 pub(crate) fn new_play() -> Play {
     Play {
         cost: 0,
+        write_back: 0,
         done: 0,
         refusal: NO_REFUSAL,
         place: 0,
@@ -74,17 +76,19 @@ pub(crate) fn new_play() -> Play {
 fn refused(play: Play, refusal: u32, place: u32) -> Play {
     Play {
         cost: play.cost,
+        write_back: play.write_back,
         done: play.done,
         refusal: refusal,
         place: place,
     }
 }
 
-// The schedule with an entry more, which completed a request or not.
-fn paid(play: Play, cost: u32, completed: bool) -> Play {
+// The schedule with an entry of this kind more.
+fn paid(play: Play, kind: u32, cost: u32) -> Play {
     Play {
         cost: sum(play.cost, cost),
-        done: sum(play.done, completed as u32),
+        write_back: sum(play.write_back, product((kind == WRITE_BACK) as u32, cost)),
+        done: sum(play.done, (kind >= COMPLETE) as u32),
         refusal: NO_REFUSAL,
         place: 0,
     }
@@ -202,10 +206,10 @@ pub(crate) fn play_entry(
     }
     if entry.kind < COMPLETE {
         let cost = moved(cells, setup, entry);
-        return paid(play, cost, false);
+        return paid(play, entry.kind, cost);
     }
     let cost = complete(cells, setup.words, play.done, entry.kind != COMPLETE);
-    paid(play, cost, true)
+    paid(play, entry.kind, cost)
 }
 
 fn entry_place(t: u32) -> u32 {

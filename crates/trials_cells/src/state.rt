@@ -41,6 +41,8 @@ pub const SHOWN: u32 = 7;
 
 pub const FACTOR: u32 = 8;
 
+pub const SPLIT: u32 = 9;
+
 // Cells of the state: the generator, the generator as the case began, the differences, and the sums of what was served.
 const GENERATOR: u32 = 0;
 
@@ -55,6 +57,8 @@ pub const CYCLES: u32 = 4;
 pub const COMPARED: u32 = 5;
 
 pub const CHEAPER: u32 = 6;
+
+pub const MET: u32 = 7;
 
 // The counts of a kind, one for each number, stand after those of the kind before it.
 const COUNTS: u32 = 16;

@@ -2,7 +2,8 @@
 
 use crate::draw::Draw;
 use crate::lend;
-use crate::model::{price, rival_shown, Ask, Board, Caches, Move, Rival};
+use crate::model::{price, rival_shown, Ask, Board, Caches, Ledger, Move, Rival};
+use std::fmt::{self, Display, Formatter};
 
 /// What a rival does with the other copies of a block that is written.
 #[derive(Clone, Copy)]
@@ -190,9 +191,17 @@ pub fn engine_moves(board: Board, asks: &[Ask]) -> Vec<Move> {
     moves
 }
 
+/// What a legal schedule costs.
+#[derive(Clone, Copy)]
+pub struct Cost {
+    pub cycles: u64,
+    /// The cycles but for write-backs.
+    pub fetch_and_update: u64,
+}
+
 /// The cost at which the archive accepts a legal schedule; the model has to agree, also on the
 /// rival's last copies.
-pub fn accepted_cost(draw: &mut Draw, board: Board, moves: &[Move], asks: &[Ask]) -> u64 {
+pub fn accepted_cost(draw: &mut Draw, board: Board, moves: &[Move], asks: &[Ask]) -> Cost {
     let (cost, rival) = price(board, moves, asks).expect("legal");
     let mut tables = lend::rival_garbage(draw, board);
     let answer = cuzkelor::price(
@@ -204,35 +213,59 @@ pub fn accepted_cost(draw: &mut Draw, board: Board, moves: &[Move], asks: &[Ask]
     let accepted = Ok(cost.try_into().expect("a cost of 32 bits"));
     assert_eq!(answer, accepted, "on {board:?} for {asks:?}: {moves:?}");
     assert_eq!(tables, rival_shown(&rival), "the rival's last copies");
-    cost
+    let write_backs = moves.iter().filter(|entry| entry.writes_back()).count();
+    Cost {
+        cycles: cost,
+        fetch_and_update: cost - u64::from(board.g) * write_backs as u64,
+    }
 }
 
-/// How close legal schedules came to half of what the engine spends.
+/// A bound and the pair that came nearest to it.
+#[derive(Default)]
+struct Nearest {
+    spent: u64,
+    most: u64,
+}
+
+impl Nearest {
+    fn hold(&mut self, spent: u64, most: u64) {
+        assert!(spent <= most, "the engine at {spent}, at most {most}");
+        if spent * self.most > self.spent * most || self.most == 0 {
+            (self.spent, self.most) = (spent, most);
+        }
+    }
+}
+
+impl Display for Nearest {
+    fn fmt(&self, to: &mut Formatter<'_>) -> fmt::Result {
+        write!(to, "{} within {}", self.spent, self.most)
+    }
+}
+
+/// How near the engine's bills came to what legal schedules cost.
 #[derive(Default)]
 pub struct Closeness {
     compared: usize,
-    spent: u64,
-    cost: u64,
+    cycles: Nearest,
+    fetches: Nearest,
+    updates: Nearest,
 }
 
 impl Closeness {
-    /// Asserts the claim for one schedule.
-    pub fn hold(&mut self, spent: u64, cost: u64) {
-        assert!(
-            2 * cost >= spent,
-            "a schedule at {cost}, the engine at {spent}"
-        );
+    /// Asserts the claim for one schedule: of the sum, and of each kind of cycles.
+    pub fn hold(&mut self, spent: Ledger, cost: Cost) {
         self.compared += 1;
-        if spent * self.cost > self.spent * cost || self.cost == 0 {
-            (self.spent, self.cost) = (spent, cost);
-        }
+        self.cycles.hold(spent.cycles(), 2 * cost.cycles);
+        self.fetches.hold(spent.fetch, cost.fetch_and_update);
+        let updates = spent.update + spent.write_back;
+        self.updates.hold(updates, cost.fetch_and_update);
     }
 
     pub fn print(&self, name: &str) {
-        let (compared, spent, cost) = (self.compared, self.spent, self.cost);
         println!(
-            "{name}: twice the cost of {compared} legal schedules covers the engine's bill; \
-             closest {cost} against {spent}"
+            "{name}: {} legal schedules; nearest: twice the cost {}, fetches {}, updates and \
+             write-backs {}",
+            self.compared, self.cycles, self.fetches, self.updates
         );
     }
 }

@@ -344,12 +344,18 @@ impl List {
         outcome
     }
 
-    /// What the account's three cycle counts grew by.
-    fn spent(&self) -> u64 {
-        self.account.total() - self.first.total()
+    /// What the account grew by.
+    fn spent(&self) -> Ledger {
+        let (first, last) = (lend::ledger(self.first), lend::ledger(self.account));
+        Ledger {
+            requests: last.requests - first.requests,
+            fetch: last.fetch - first.fetch,
+            write_back: last.write_back - first.write_back,
+            update: last.update - first.update,
+        }
     }
 
-    /// Twice the cost of every legal schedule is at least what the engine spent.
+    /// What the engine spent is within what every legal schedule costs.
     fn bound(&self, draw: &mut Draw, closeness: &mut Closeness) {
         for moves in rivals::some_legal(draw, self.board, &self.taken) {
             let cost = rivals::accepted_cost(draw, self.board, &moves, &self.taken);

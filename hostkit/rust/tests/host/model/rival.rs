@@ -122,6 +122,10 @@ impl Move {
     pub fn completes(self) -> bool {
         matches!(self, Move::Complete | Move::Broadcast)
     }
+
+    pub fn writes_back(self) -> bool {
+        matches!(self, Move::WriteBack(..))
+    }
 }
 
 /// The cost of a schedule and the rival's last copies, or the refusal and its place.
