@@ -1,5 +1,4 @@
--- Demand 3, its first half: what any list of runs leaves (protocol's Engines), and that every legal schedule covers it, kind by kind;
--- the claim about the sum follows.
+-- Demand 3, its first half: what any list of runs leaves (protocol's Engines), and theorem 4.2 (Half) of the requests taken; document 01's claim follows.
 use Prim.Native.Nat.{_*_, _≤_}
 use mathlib.Core.Path.{_≡_, ap}
 use mathlib.Core.Bool.{true}
@@ -32,9 +31,9 @@ split-claim s accepted a p rs = record {
   splits = λ es l. split-bill s (setup-fits s accepted) (takenAll (engine s) (a .requests) rs) es l;
 }
 
--- ---- the sum
+-- ---- document 01's claim
 
--- a rival's write-backs do not count
+-- the two bounds added; the schedule's write-backs are in neither
 pub twice : (c d : Bill) → SplitBill c d → cycles c ≤ 2 * fetchAndUpdate d
 twice c d b = omega (arith, b .fetches, b .updates)
 

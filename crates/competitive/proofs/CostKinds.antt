@@ -1,5 +1,5 @@
 -- The kinds of a schedule's cost: its update cycles are what its completions cost, its write-back cycles g for each write-back.
-use Prim.Native.Nat.{ℕ, _+_, _*_}
+use Prim.Native.Nat.{_*_}
 use mathlib.Core.Path.{_≡_, refl}
 use mathlib.Core.Bool.{cond}
 use mathlib.Core.List.{List, [], _∷_}

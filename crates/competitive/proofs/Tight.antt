@@ -1,4 +1,4 @@
--- Demand 3, its second half: lists on which the engine costs 2f + 2fk, half of it and f more for fetches, and a legal schedule 2f + fk, all of it for fetches.
+-- Demand 3, its second half: lists on which the engine costs 2f + 2fk (2f + fk for fetches, fk for updates) and a legal schedule 2f + fk, all of it for fetches.
 use Prim.Native.Nat.{ℕ, zero, suc, _+_, _-_, _*_, _≤_, _<_}
 use mathlib.Core.Path.{_≡_, refl, sym, ap, _∙_}
 use mathlib.Core.Logic.{_≢_}
@@ -75,8 +75,8 @@ unfoldable pub tightSchedule : Setup → ℕ → List Entry
 tightSchedule s k = fetchFor 0 ∷ Complete ∷ fetchFor 1 ∷ Complete ∷ scheduleRounds (fetchPrice s) k
 
 -- x cycles of fetches and y of updates
-abbrev costing : ℕ → ℕ → Bill
-costing x y = record { fetch = x; «write_back» = 0; update = y }
+abbrev fetchUpdateBill : ℕ → ℕ → Bill
+fetchUpdateBill x y = record { fetch = x; «write_back» = 0; update = y }
 
 -- the slots of variable 0's block at processors 0 and 1
 abbrev slot0 : Setup → ℕ
@@ -276,24 +276,24 @@ module _ (s : Setup) (ok : Fits s) (two : 2 ≤ s .processors) where
   -- what the engine spends
 
   writes-spent : (n m : ℕ) (qs : List Request)
-      → spent (engine s) (zeroed s (pair (n + m))) (replicate n write0 ++ qs) ≡ plus (costing 0 n) (spent (engine s) (zeroed s (pair m)) qs)
+      → spent (engine s) (zeroed s (pair (n + m))) (replicate n write0 ++ qs) ≡ plus (fetchUpdateBill 0 n) (spent (engine s) (zeroed s (pair m)) qs)
   writes-spent zero m qs = let e : 0 + m ≡ m = omega arith in rw e (bill-path (omega arith) (omega arith) (omega arith))
   writes-spent (suc n) m qs =
       let e : suc n + m - 1 ≡ n + m = omega arith in
       rw (write-bill (suc n + m) (omega arith), write-served (suc n + m) (omega arith), e, writes-spent n m qs)
       (bill-path (omega arith) (omega arith) (omega arith))
 
-  rounds-spent : (k : ℕ) → spent (engine s) (zeroed s (pair (fetchPrice s))) (rounds (fetchPrice s) k) ≡ costing (fetchPrice s * k) (fetchPrice s * k)
+  rounds-spent : (k : ℕ) → spent (engine s) (zeroed s (pair (fetchPrice s))) (rounds (fetchPrice s) k) ≡ fetchUpdateBill (fetchPrice s * k) (fetchPrice s * k)
   rounds-spent zero = bill-path (omega arith) (omega arith) (omega arith)
   rounds-spent (suc k) =
       let f : ℕ = fetchPrice s in
       let e : f ≡ f + 0 = omega arith in
-      let g : spent (engine s) (zeroed s (pair 0)) (readBy 1 ∷ rounds f k) ≡ plus (costing f 0) (costing (f * k) (f * k)) =
+      let g : spent (engine s) (zeroed s (pair 0)) (readBy 1 ∷ rounds f k) ≡ plus (fetchUpdateBill f 0) (fetchUpdateBill (f * k) (f * k)) =
       rw (read-bill s (pair 0) 1 (at-both-1 (fetchPrice s) 0), reread-served, rounds-spent k) in
       ap (λ x. spent (engine s) (zeroed s (pair x)) (rounds f (suc k))) e ∙ writes-spent f 0 (readBy 1 ∷ rounds f k)
-      ∙ ap (plus (costing 0 f)) g ∙ bill-path (omega (arith, mul-suc f k)) (omega arith) (omega (arith, mul-suc f k))
+      ∙ ap (plus (fetchUpdateBill 0 f)) g ∙ bill-path (omega (arith, mul-suc f k)) (omega arith) (omega (arith, mul-suc f k))
 
-  pub tight-spent : (k : ℕ) → spent (engine s) (fresh s) (tight s k) ≡ costing (2 * fetchPrice s + fetchPrice s * k) (fetchPrice s * k)
+  pub tight-spent : (k : ℕ) → spent (engine s) (fresh s) (tight s k) ≡ fetchUpdateBill (2 * fetchPrice s + fetchPrice s * k) (fetchPrice s * k)
   unfolding tight fresh
   tight-spent k =
       let e1 = at-only-1 (fetchPrice s) in
@@ -311,7 +311,7 @@ module _ (s : Setup) (ok : Fits s) (two : 2 ≤ s .processors) where
 -- a schedule is legal, and costs c, all of it for fetches
 pub record Plays (s : Setup) (r : Rival) (qs : List Request) (es : List Entry) (c : ℕ) : Type 0 where
   pub legal : Legal s r qs es
-  pub costs : costs s r qs es ≡ costing c 0
+  pub costs : costs s r qs es ≡ fetchUpdateBill c 0
 
 pub rival-path : {r q : Rival} → r .blocks ≡ q .blocks → r .held ≡ q .held → r .marks ≡ q .marks → r ≡ q
 rival-path a b c = λ i. record { blocks = a i; held = b i; marks = c i }
@@ -507,9 +507,9 @@ module _ (s : Setup) (accepted : setupRefusal s ≡ noRefusal) (enough : 2 ≤ s
   few-tight : length (tight s k) ≤ requestLimit
   few-tight = omega (arith, length-tight s k)
 
-  spends-each : (vs : List ℕ) → length vs ≡ length (tight s k)
-      → billOf (run (engine s) (fresh s) freshAccount (tight s k) vs .account) ≡ costing (2 * fetchPrice s + fetchPrice s * k) (fetchPrice s * k)
-  spends-each vs e =
+  spends-by-kind : (vs : List ℕ) → length vs ≡ length (tight s k)
+      → billOf (run (engine s) (fresh s) freshAccount (tight s k) vs .account) ≡ fetchUpdateBill (2 * fetchPrice s + fetchPrice s * k) (fetchPrice s * k)
+  spends-by-kind vs e =
       rw (leaves-whole s accepted (tight s k) valid few-tight vs e .account, tight-spent s ok enough k) (bill-path (omega arith) (omega arith) (omega arith))
 
   pub tight-list : TightList s k
@@ -519,9 +519,9 @@ module _ (s : Setup) (accepted : setupRefusal s ≡ noRefusal) (enough : 2 ≤ s
     many = length-tight s k;
     whole = λ vs e. ap (λ (r : RunAnswer). r .refusal) (answers-whole s accepted (tight s k) valid few-tight vs e);
     count = λ vs e. ap (λ (r : RunAnswer). r .taken) (answers-whole s accepted (tight s k) valid few-tight vs e);
-    spends = λ vs e. ap cycles (spends-each vs e) ∙ omega arith;
-    spends-each = spends-each;
+    spends = λ vs e. ap cycles (spends-by-kind vs e) ∙ omega arith;
+    spends-by-kind = spends-by-kind;
     legal = tight-plays s ok enough k .legal;
     pays = ap cycles (tight-plays s ok enough k .costs) ∙ omega arith;
-    pays-each = tight-plays s ok enough k .costs;
+    pays-by-kind = tight-plays s ok enough k .costs;
   }

@@ -104,14 +104,14 @@ pub record TightList (s : Setup) (k : ℕ) : Type 0 where
   pub spends : (vs : List ℕ) → length vs ≡ length requests
       → cyclesOf (run (engine s) (fresh s) freshAccount requests vs .account) ≡ 2 * fetchPrice s + 2 * (fetchPrice s * k)
   -- 2f + fk of them for fetches, fk for updates
-  pub spends-each : (vs : List ℕ) → length vs ≡ length requests
+  pub spends-by-kind : (vs : List ℕ) → length vs ≡ length requests
       → billOf (run (engine s) (fresh s) freshAccount requests vs .account)
       ≡ record { fetch = 2 * fetchPrice s + fetchPrice s * k; «write_back» = 0; update = fetchPrice s * k }
   -- the schedule is legal for it, at exactly 2f + fk
   pub legal : Legal s (noCopies s) requests schedule
   pub pays : cycles (costs s (noCopies s) requests schedule) ≡ 2 * fetchPrice s + fetchPrice s * k
   -- all of it for fetches: the first bound of `SplitBill` is met with equality, the second is missed by 2f
-  pub pays-each : costs s (noCopies s) requests schedule ≡ record { fetch = 2 * fetchPrice s + fetchPrice s * k; «write_back» = 0; update = 0 }
+  pub pays-by-kind : costs s (noCopies s) requests schedule ≡ record { fetch = 2 * fetchPrice s + fetchPrice s * k; «write_back» = 0; update = 0 }
 
 pub record Demand3 (s : Setup) : Type 0 where
   pub bounded : (a : Account) → possible s a ≡ true → (rs : List (Run Request)) → Claim s a rs

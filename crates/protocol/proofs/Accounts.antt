@@ -1,4 +1,4 @@
--- Laws of accounts: equal by their fields, what requests can cost, and condition 21 as facts.
+-- Laws of accounts and bills: equal by their fields, what requests can cost, and condition 21 as facts.
 use Prim.Native.Nat.{ℕ, _+_, _*_, _≤_}
 use mathlib.Core.Path.{_≡_}
 use mathlib.Core.Bool.{true}

@@ -2220,14 +2220,14 @@ rows =
       pays = cost 12 0 0;
       sum = 12;
     })
-    -- a schedule that keeps both copies: without its updates it would pay less than the fetch cycles
+    -- a schedule that keeps both copies, for three rounds: without its updates it would pay less than the fetch cycles, and less than the update cycles
     ∷ split (record {
       setup = cheapFetch;
-      requests = read 0 4 ∷ read 1 4 ∷ write 0 4 4 ∷ write 0 4 5 ∷ write 0 4 6 ∷ read 1 4 ∷ write 0 4 7 ∷ write 0 4 8 ∷ write 0 4 9 ∷ read 1 4 ∷ [];
-      entries = fetchEntry 0 1 ∷ fetchEntry 1 1 ∷ Complete ∷ Complete ∷ Complete ∷ Complete ∷ Complete ∷ Complete ∷ Complete ∷ Complete ∷ Complete ∷ Complete ∷ [];
-      spends = cost 12 0 6;
-      pays = cost 6 0 6;
-      sum = 12;
+      requests = read 0 4 ∷ read 1 4 ∷ write 0 4 4 ∷ write 0 4 5 ∷ write 0 4 6 ∷ read 1 4 ∷ write 0 4 7 ∷ write 0 4 8 ∷ write 0 4 9 ∷ read 1 4 ∷ write 0 4 7 ∷ write 0 4 8 ∷ write 0 4 9 ∷ read 1 4 ∷ [];
+      entries = fetchEntry 0 1 ∷ fetchEntry 1 1 ∷ replicate 14 Complete;
+      spends = cost 15 0 9;
+      pays = cost 6 0 9;
+      sum = 15;
     })
     -- without the last read: update and write-back cycles are f below the schedule's fetch plus update cycles
     ∷ split (record {

@@ -6,7 +6,7 @@ use Prim.Native.Nat.{ℕ}
 use native.Mathlib.Omega.{arith}
 use lib.ListN.{length}
 use Rattle.protocol.specs.Tables.{fresh}
-use Rattle.protocol.specs.Accounts.{freshAccount, cycles, entered, billOf}
+use Rattle.protocol.specs.Accounts.{freshAccount, cycles, billOf}
 use Rattle.protocol.specs.Engines.{spent}
 use Rattle.protocol.specs.Runs.{engine}
 use Rattle.protocol.proofs.Accounts.{bill-path, is-possible}

@@ -273,8 +273,8 @@ fn run_fresh(cells: &mut Cells, setup: Setup, n: u32) -> Judged {
     run_trials::run_both(cells, plan)
 }
 
-// All n requests are taken, twice the schedule's cost is at least the engine's bill, and its cost but for its write-backs is at least the
-// engine's fetch cycles, and its update and write-back cycles: what is otherwise; 0 if nothing.
+// All n requests are taken, twice the schedule's cost is at least the engine's bill, and the schedule's cost without its write-backs is at
+// least the engine's fetch cycles, and at least the engine's update plus write-back cycles: what is otherwise; 0 if nothing.
 fn bound_differs(account: Account, n: u32, play: Play) -> u32 {
     if account.requests != n {
         return state::TAKEN;
@@ -291,6 +291,14 @@ fn bound_differs(account: Account, n: u32, play: Play) -> u32 {
     0
 }
 
+// There are fetch cycles, and they are the schedule's cost without its write-backs.
+fn met(account: Account, play: Play) -> bool {
+    if account.fetch == 0 {
+        return false;
+    }
+    sum(account.fetch, play.write_back) == play.cost
+}
+
 // The engine's bill for n requests beside the cost of a legal schedule for them. The account is the model's, which the
 // entry's was compared with.
 fn note_compared(cells: &mut Cells, judged: Judged, n: u32, play: Play, case: u32) {
@@ -299,8 +307,7 @@ fn note_compared(cells: &mut Cells, judged: Judged, n: u32, play: Play, case: u3
     state::add(cells, state::COMPARED, 1);
     let cheaper = run_trials::cycles(account) > play.cost;
     state::add(cells, state::CHEAPER, cheaper as u32);
-    let met = sum(account.fetch, play.write_back) == play.cost;
-    state::add(cells, state::MET, met as u32);
+    state::add(cells, state::MET, met(account, play) as u32);
     let what = bound_differs(account, n, play);
     state::judge(cells, state::PRICE, case, what);
 }

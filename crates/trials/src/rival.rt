@@ -83,7 +83,7 @@ fn refused(play: Play, refusal: u32, place: u32) -> Play {
     }
 }
 
-// The schedule with an entry of this kind more.
+// The schedule with one more entry, of this kind and at this cost.
 fn paid(play: Play, kind: u32, cost: u32) -> Play {
     Play {
         cost: sum(play.cost, cost),

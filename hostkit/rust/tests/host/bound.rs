@@ -60,7 +60,7 @@ fn reached(
     reached
 }
 
-/// A cheapest schedule: positions are closed in the order of their cost.
+/// A schedule whose counted cost is least: positions are closed in the order of that cost.
 fn cheapest(board: Board, counted: Counted, asks: &[Ask]) -> Vec<Move> {
     let start: Position = (BTreeMap::new(), 0);
     let mut open: BTreeSet<(u64, Position)> = [(0, start.clone())].into();
@@ -119,7 +119,7 @@ fn cheapest_schedules() {
         let count = draw.index(13);
         let asks = draw.asks(board, count);
         let bill = bill(board, &asks);
-        let [least, other] = [all, fetch_and_update].map(|counted: Counted| {
+        let [least, least_but_write_backs] = [all, fetch_and_update].map(|counted: Counted| {
             let moves = cheapest(board, counted, &asks);
             accepted_cost(&mut draw, board, &moves, &asks)
         });
@@ -127,9 +127,9 @@ fn cheapest_schedules() {
             least.cycles <= bill.cycles(),
             "the engine's own actions are no cheaper"
         );
-        assert!(other.fetch_and_update <= bill.fetch + bill.update);
+        assert!(least_but_write_backs.fetch_and_update <= bill.fetch + bill.update);
         closeness.hold(bill, least);
-        closeness.hold(bill, other);
+        closeness.hold(bill, least_but_write_backs);
     }
     closeness.print("cheapest schedules");
     prices.close("cheapest schedules");

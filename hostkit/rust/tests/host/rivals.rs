@@ -228,8 +228,8 @@ struct Nearest {
 }
 
 impl Nearest {
-    fn hold(&mut self, spent: u64, most: u64) {
-        assert!(spent <= most, "the engine at {spent}, at most {most}");
+    fn hold(&mut self, bound: &str, spent: u64, most: u64) {
+        assert!(spent <= most, "{bound}: {spent}, at most {most}");
         if spent * self.most > self.spent * most || self.most == 0 {
             (self.spent, self.most) = (spent, most);
         }
@@ -252,19 +252,24 @@ pub struct Closeness {
 }
 
 impl Closeness {
-    /// Asserts the claim for one schedule: of the sum, and of each kind of cycles.
+    /// Asserts the claim for one schedule: of all cycles together, and of each kind.
     pub fn hold(&mut self, spent: Ledger, cost: Cost) {
-        self.compared += 1;
-        self.cycles.hold(spent.cycles(), 2 * cost.cycles);
-        self.fetches.hold(spent.fetch, cost.fetch_and_update);
+        let Cost {
+            cycles,
+            fetch_and_update,
+        } = cost;
         let updates = spent.update + spent.write_back;
-        self.updates.hold(updates, cost.fetch_and_update);
+        self.compared += 1;
+        self.cycles.hold("cycles", spent.cycles(), 2 * cycles);
+        self.fetches.hold("fetches", spent.fetch, fetch_and_update);
+        self.updates
+            .hold("updates and write-backs", updates, fetch_and_update);
     }
 
     pub fn print(&self, name: &str) {
         println!(
-            "{name}: {} legal schedules; nearest: twice the cost {}, fetches {}, updates and \
-             write-backs {}",
+            "{name}: {} legal schedules; nearest: cycles {} (twice the cost), fetches {}, updates \
+             and write-backs {}",
             self.compared, self.cycles, self.fetches, self.updates
         );
     }

@@ -355,7 +355,7 @@ impl List {
         }
     }
 
-    /// What the engine spent is within what every legal schedule costs.
+    /// Some legal schedules against what the engine spent: twice the cost, and the two bounds by kind.
     fn bound(&self, draw: &mut Draw, closeness: &mut Closeness) {
         for moves in rivals::some_legal(draw, self.board, &self.taken) {
             let cost = rivals::accepted_cost(draw, self.board, &moves, &self.taken);
