@@ -187,7 +187,12 @@ uint32_t cuzkelor_run(uint32_t processors, uint32_t lines, uint32_t block_words,
  * cycles, the sum of its entries' costs: fetch_price for a fetch, write_back_price for a write-back, 0 for a drop and
  * for a completed read, 1 for a write completed by broadcast, and for a write completed otherwise 0 where its block has
  * one holder, else 1. By 1, 10, 2 or 5: place and cost are 0, no table changes. By any other: place is the entry's (28:
- * the number of entries), cost is 0, and the tables are all 0. */
+ * the number of entries), cost is 0, and the tables are all 0.
+ *
+ * What a cost says of runs, the first of them on started tables, if the schedule is not refused for the requests that
+ * they took, all in one list: the cycles that they added to the account are together at most twice the cost. Their
+ * fetch cycles are at most the cost less write_back_price for each write-back in the schedule, and so are their update
+ * and write-back cycles together. */
 uint32_t cuzkelor_price(uint32_t processors, uint32_t lines, uint32_t block_words, uint32_t block_count,
                         uint32_t fetch_price, uint32_t write_back_price, uint32_t *blocks, size_t blocks_length,
                         uint32_t *held, size_t held_length, uint32_t *marks, size_t marks_length,

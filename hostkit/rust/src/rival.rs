@@ -4,6 +4,11 @@ use crate::{Entry, PriceError, Refusal, Request, RivalTables, Setup};
 /// Plays a rival's schedule for the requests from empty caches, and gives its cost: the sum of its
 /// entries' cycles. Then the tables show the rival's last copies.
 ///
+/// What a cost says of runs, the first of them on started tables, if the requests are all that they
+/// took: the cycles that they added to the account are together at most twice the cost. Their fetch
+/// cycles are at most the cost less the write-back price for each write-back in the schedule, and so
+/// are their update and write-back cycles together.
+///
 /// ```
 /// use cuzkelor::{price, Block, Entry, Request, RivalTables, Variable, TRACE_SETUP};
 ///
