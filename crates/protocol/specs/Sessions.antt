@@ -164,7 +164,7 @@ pub record Session : Type 0 where
   pub setup : Setup
   -- the account at first
   pub account : Account
-  -- taken first, from fresh tables: the run meets the tables and the account that they leave
+  -- taken first, from fresh tables (or lent ones): the run meets the tables and the account that they leave
   pub before : List Request
   pub requests : List Request
   -- what it leaves in a list of as many nines
@@ -216,6 +216,8 @@ pub record Split : Type 0 where
 
 pub data Row : Type 0 where
   session : Session → Row
+  -- a session that starts from tables as they are lent, with these lines and cells, and not from fresh ones
+  lentSession : List Copy → List Cell → Session → Row
   -- tables that an empty run meets, and its refusal
   tabled : Setup → Tables → ℕ → Row
   lent : Lent → Row
@@ -254,10 +256,10 @@ setupRefused s n = lent (record {
 
 -- ---- when a row passes
 
-unfoldable pub sessionPasses : Session → Bool
-sessionPasses w =
+unfoldable pub sessionPasses : Tables → Session → Bool
+sessionPasses t w =
     let s : Setup = w .setup in
-    let b : Outcome Tables = run (engine s) (fresh s) (w .account) (w .before) (replicate (length (w .before)) 9) in
+    let b : Outcome Tables = run (engine s) t (w .account) (w .before) (replicate (length (w .before)) 9) in
     let o : Outcome Tables = run (engine s) (b .tables) (b .account) (w .requests) (replicate (length (w .requests)) 9) in
     eqb (b .answer .taken) (length (w .before))
     && sameAnswer (o .answer) (w .answer) && sameList (o .values) (w .values)
@@ -315,7 +317,8 @@ takenPasses s seed n =
     eqb (generateRefusal s seed n) 0 && sameAnswer (o .answer) (answered n 0 0)
 
 abbrev pub passes : Row → Bool
-passes (session w) = sessionPasses w
+passes (session w) = sessionPasses (fresh (w .setup)) w
+passes (lentSession cs ms w) = sessionPasses (holding (w .setup) cs ms) w
 passes (tabled s t n) = tabledPasses s t n
 passes (lent w) = lentPasses w
 passes (quote w) = quotePasses w
@@ -515,6 +518,20 @@ rows =
       changes = true;
       lines = copy 1 9 3 0 (0 ∷ 0 ∷ 6 ∷ 0 ∷ []) ∷ copy 9 9 4 0 (0 ∷ 0 ∷ 6 ∷ 0 ∷ []) ∷ copy 17 9 4 0 (0 ∷ 0 ∷ 6 ∷ 0 ∷ []) ∷ [];
       memory = cell 38 6 ∷ [];
+    })
+    -- beside S9, counters 4 and 2 (P5): 2 pays
+    ∷ session (record {
+      setup = usual;
+      account = account 0 0 0 0;
+      before = read 0 39 ∷ read 2 39 ∷ write 0 38 5 ∷ write 0 37 4 ∷ read 1 39 ∷ [];
+      requests = write 1 38 6 ∷ [];
+      values = 6 ∷ [];
+      answer = answered 1 0 0;
+      cost = cost 0 0 1;
+      left = account 6 12 0 3;
+      changes = true;
+      lines = copy 1 9 4 0 (0 ∷ 4 ∷ 6 ∷ 0 ∷ []) ∷ copy 9 9 4 0 (0 ∷ 4 ∷ 6 ∷ 0 ∷ []) ∷ copy 17 9 1 0 (0 ∷ 4 ∷ 6 ∷ 0 ∷ []) ∷ [];
+      memory = cell 37 4 ∷ cell 38 6 ∷ [];
     })
     -- S10, processors 1 and 3 on block 13
     ∷ session (record {
@@ -740,7 +757,7 @@ rows =
       lines = copy 9 9 4 0 (0 ∷ 0 ∷ 0 ∷ 0 ∷ []) ∷ [];
       memory = [];
     })
-    -- mistake 1: one payer, the lowest-numbered other holder
+    -- mistake 1: one payer, of equal ones the lowest
     ∷ session (record {
       setup = usual;
       account = account 0 0 0 0;
@@ -936,7 +953,7 @@ rows =
       lines = copy 2 2 2 0 (1 ∷ 3 ∷ []) ∷ [];
       memory = cell 4 1 ∷ cell 5 3 ∷ [];
     })
-    -- the payer is the lowest-numbered other holder, whatever the counters: others with 4 and 2
+    -- the payer is the other holder with the smallest counter (P5): others with 4 and 2
     ∷ session (record {
       setup = usual;
       account = account 0 0 0 0;
@@ -947,7 +964,7 @@ rows =
       cost = cost 0 0 1;
       left = account 6 12 0 3;
       changes = true;
-      lines = copy 1 9 3 0 (3 ∷ 5 ∷ 6 ∷ 0 ∷ []) ∷ copy 9 9 2 0 (3 ∷ 5 ∷ 6 ∷ 0 ∷ []) ∷ copy 17 9 4 0 (3 ∷ 5 ∷ 6 ∷ 0 ∷ []) ∷ [];
+      lines = copy 1 9 4 0 (3 ∷ 5 ∷ 6 ∷ 0 ∷ []) ∷ copy 9 9 1 0 (3 ∷ 5 ∷ 6 ∷ 0 ∷ []) ∷ copy 17 9 4 0 (3 ∷ 5 ∷ 6 ∷ 0 ∷ []) ∷ [];
       memory = cell 36 3 ∷ cell 37 5 ∷ cell 38 6 ∷ [];
     })
     -- others with 2 and 4
@@ -964,7 +981,7 @@ rows =
       lines = copy 1 9 1 0 (3 ∷ 5 ∷ 6 ∷ 0 ∷ []) ∷ copy 9 9 4 0 (3 ∷ 5 ∷ 6 ∷ 0 ∷ []) ∷ copy 17 9 4 0 (3 ∷ 5 ∷ 6 ∷ 0 ∷ []) ∷ [];
       memory = cell 36 3 ∷ cell 37 5 ∷ cell 38 6 ∷ [];
     })
-    -- others with 4 and 1
+    -- others with 4 and 1: the payer's line becomes empty
     ∷ session (record {
       setup = usual;
       account = account 0 0 0 0;
@@ -975,10 +992,10 @@ rows =
       cost = cost 0 0 1;
       left = account 7 12 0 4;
       changes = true;
-      lines = copy 1 9 3 0 (3 ∷ 5 ∷ 6 ∷ 4 ∷ []) ∷ copy 9 9 1 0 (3 ∷ 5 ∷ 6 ∷ 4 ∷ []) ∷ copy 17 9 4 0 (3 ∷ 5 ∷ 6 ∷ 4 ∷ []) ∷ [];
+      lines = copy 1 9 4 0 (3 ∷ 5 ∷ 6 ∷ 4 ∷ []) ∷ copy 17 9 4 0 (3 ∷ 5 ∷ 6 ∷ 4 ∷ []) ∷ [];
       memory = cell 36 3 ∷ cell 37 5 ∷ cell 38 6 ∷ cell 39 4 ∷ [];
     })
-    -- others with 1 and 4: the payer's line becomes empty
+    -- others with 1 and 4
     ∷ session (record {
       setup = usual;
       account = account 0 0 0 0;
@@ -2291,5 +2308,132 @@ rows =
       spends = cost 0 0 0;
       pays = cost 5 3 0;
       sum = 5;
+    })
+    -- ---- document 02, P5
+    -- the writer's own counter, 2, is the smallest of all: of the others, with 4 and 4, the lowest pays
+    ∷ session (record {
+      setup = usual;
+      account = account 0 0 0 0;
+      before = read 0 39 ∷ read 1 39 ∷ read 2 39 ∷ write 0 38 6 ∷ write 0 37 5 ∷ [];
+      requests = write 1 36 3 ∷ [];
+      values = 3 ∷ [];
+      answer = answered 1 0 0;
+      cost = cost 0 0 1;
+      left = account 6 12 0 3;
+      changes = true;
+      lines = copy 1 9 3 0 (3 ∷ 5 ∷ 6 ∷ 0 ∷ []) ∷ copy 9 9 4 0 (3 ∷ 5 ∷ 6 ∷ 0 ∷ []) ∷ copy 17 9 4 0 (3 ∷ 5 ∷ 6 ∷ 0 ∷ []) ∷ [];
+      memory = cell 36 3 ∷ cell 37 5 ∷ cell 38 6 ∷ [];
+    })
+    -- three others, and the highest processor has the smallest counter: 4, 4 and 2
+    ∷ session (record {
+      setup = usual;
+      account = account 0 0 0 0;
+      before = read 0 39 ∷ read 3 39 ∷ write 0 38 6 ∷ write 0 37 5 ∷ read 1 39 ∷ read 2 39 ∷ [];
+      requests = write 1 36 3 ∷ [];
+      values = 3 ∷ [];
+      answer = answered 1 0 0;
+      cost = cost 0 0 1;
+      left = account 7 16 0 3;
+      changes = true;
+      lines = copy 1 9 4 0 (3 ∷ 5 ∷ 6 ∷ 0 ∷ []) ∷ copy 9 9 4 0 (3 ∷ 5 ∷ 6 ∷ 0 ∷ []) ∷ copy 17 9 4 0 (3 ∷ 5 ∷ 6 ∷ 0 ∷ []) ∷ copy 25 9 1 0 (3 ∷ 5 ∷ 6 ∷ 0 ∷ []) ∷ [];
+      memory = cell 36 3 ∷ cell 37 5 ∷ cell 38 6 ∷ [];
+    })
+    -- on lent tables, three others with 4, 2 and 2: of the equal ones the lowest pays
+    ∷ lentSession (copy 1 9 4 0 (0 ∷ 5 ∷ 0 ∷ 0 ∷ []) ∷ copy 9 9 2 0 (0 ∷ 5 ∷ 0 ∷ 0 ∷ []) ∷ copy 17 9 2 0 (0 ∷ 5 ∷ 0 ∷ 0 ∷ []) ∷ copy 25 9 3 0 (0 ∷ 5 ∷ 0 ∷ 0 ∷ []) ∷ []) (cell 37 5 ∷ []) (record {
+      setup = usual;
+      account = account 0 0 0 0;
+      before = [];
+      requests = write 3 38 6 ∷ [];
+      values = 6 ∷ [];
+      answer = answered 1 0 0;
+      cost = cost 0 0 1;
+      left = account 1 0 0 1;
+      changes = true;
+      lines = copy 1 9 4 0 (0 ∷ 5 ∷ 6 ∷ 0 ∷ []) ∷ copy 9 9 1 0 (0 ∷ 5 ∷ 6 ∷ 0 ∷ []) ∷ copy 17 9 2 0 (0 ∷ 5 ∷ 6 ∷ 0 ∷ []) ∷ copy 25 9 4 0 (0 ∷ 5 ∷ 6 ∷ 0 ∷ []) ∷ [];
+      memory = cell 37 5 ∷ cell 38 6 ∷ [];
+    })
+    -- three others with 3, 2 and 4: neither the lowest nor the highest processor pays
+    ∷ lentSession (copy 1 9 3 0 (0 ∷ 5 ∷ 0 ∷ 0 ∷ []) ∷ copy 9 9 2 0 (0 ∷ 5 ∷ 0 ∷ 0 ∷ []) ∷ copy 17 9 4 0 (0 ∷ 5 ∷ 0 ∷ 0 ∷ []) ∷ copy 25 9 4 0 (0 ∷ 5 ∷ 0 ∷ 0 ∷ []) ∷ []) (cell 37 5 ∷ []) (record {
+      setup = usual;
+      account = account 0 0 0 0;
+      before = [];
+      requests = write 3 38 6 ∷ [];
+      values = 6 ∷ [];
+      answer = answered 1 0 0;
+      cost = cost 0 0 1;
+      left = account 1 0 0 1;
+      changes = true;
+      lines = copy 1 9 3 0 (0 ∷ 5 ∷ 6 ∷ 0 ∷ []) ∷ copy 9 9 1 0 (0 ∷ 5 ∷ 6 ∷ 0 ∷ []) ∷ copy 17 9 4 0 (0 ∷ 5 ∷ 6 ∷ 0 ∷ []) ∷ copy 25 9 4 0 (0 ∷ 5 ∷ 6 ∷ 0 ∷ []) ∷ [];
+      memory = cell 37 5 ∷ cell 38 6 ∷ [];
+    })
+    -- three others with 3, 2 and 1: the highest pays, and its line becomes empty
+    ∷ lentSession (copy 1 9 3 0 (0 ∷ 5 ∷ 0 ∷ 0 ∷ []) ∷ copy 9 9 4 0 (0 ∷ 5 ∷ 0 ∷ 0 ∷ []) ∷ copy 17 9 2 0 (0 ∷ 5 ∷ 0 ∷ 0 ∷ []) ∷ copy 25 9 1 0 (0 ∷ 5 ∷ 0 ∷ 0 ∷ []) ∷ []) (cell 37 5 ∷ []) (record {
+      setup = usual;
+      account = account 0 0 0 0;
+      before = [];
+      requests = write 1 38 6 ∷ [];
+      values = 6 ∷ [];
+      answer = answered 1 0 0;
+      cost = cost 0 0 1;
+      left = account 1 0 0 1;
+      changes = true;
+      lines = copy 1 9 3 0 (0 ∷ 5 ∷ 6 ∷ 0 ∷ []) ∷ copy 9 9 4 0 (0 ∷ 5 ∷ 6 ∷ 0 ∷ []) ∷ copy 17 9 2 0 (0 ∷ 5 ∷ 6 ∷ 0 ∷ []) ∷ [];
+      memory = cell 37 5 ∷ cell 38 6 ∷ [];
+    })
+    -- the writer's own counter, 1, is the smallest of all: of the others, with 3 and 2, the weakest pays
+    ∷ lentSession (copy 1 9 1 0 (0 ∷ 5 ∷ 0 ∷ 0 ∷ []) ∷ copy 9 9 3 0 (0 ∷ 5 ∷ 0 ∷ 0 ∷ []) ∷ copy 17 9 2 0 (0 ∷ 5 ∷ 0 ∷ 0 ∷ []) ∷ []) (cell 37 5 ∷ []) (record {
+      setup = usual;
+      account = account 0 0 0 0;
+      before = [];
+      requests = write 0 38 6 ∷ [];
+      values = 6 ∷ [];
+      answer = answered 1 0 0;
+      cost = cost 0 0 1;
+      left = account 1 0 0 1;
+      changes = true;
+      lines = copy 1 9 4 0 (0 ∷ 5 ∷ 6 ∷ 0 ∷ []) ∷ copy 9 9 3 0 (0 ∷ 5 ∷ 6 ∷ 0 ∷ []) ∷ copy 17 9 1 0 (0 ∷ 5 ∷ 6 ∷ 0 ∷ []) ∷ [];
+      memory = cell 37 5 ∷ cell 38 6 ∷ [];
+    })
+    -- a counter of 1 in the same line is block 1's, not block 9's, of which others have 3 and 2
+    ∷ lentSession (copy 1 1 1 0 (0 ∷ 0 ∷ 7 ∷ 0 ∷ []) ∷ copy 9 9 3 0 (0 ∷ 5 ∷ 0 ∷ 0 ∷ []) ∷ copy 17 9 4 0 (0 ∷ 5 ∷ 0 ∷ 0 ∷ []) ∷ copy 25 9 2 0 (0 ∷ 5 ∷ 0 ∷ 0 ∷ []) ∷ []) (cell 6 7 ∷ cell 37 5 ∷ []) (record {
+      setup = usual;
+      account = account 0 0 0 0;
+      before = [];
+      requests = write 2 38 6 ∷ [];
+      values = 6 ∷ [];
+      answer = answered 1 0 0;
+      cost = cost 0 0 1;
+      left = account 1 0 0 1;
+      changes = true;
+      lines = copy 1 1 1 0 (0 ∷ 0 ∷ 7 ∷ 0 ∷ []) ∷ copy 9 9 3 0 (0 ∷ 5 ∷ 6 ∷ 0 ∷ []) ∷ copy 17 9 4 0 (0 ∷ 5 ∷ 6 ∷ 0 ∷ []) ∷ copy 25 9 1 0 (0 ∷ 5 ∷ 6 ∷ 0 ∷ []) ∷ [];
+      memory = cell 6 7 ∷ cell 37 5 ∷ cell 38 6 ∷ [];
+    })
+    -- eight holders: the writer has 1, and of the others the highest processor has the smallest counter
+    ∷ lentSession (copy 0 1 8 0 (3 ∷ []) ∷ copy 1 1 7 0 (3 ∷ []) ∷ copy 2 1 6 0 (3 ∷ []) ∷ copy 3 1 5 0 (3 ∷ []) ∷ copy 4 1 4 0 (3 ∷ []) ∷ copy 5 1 3 0 (3 ∷ []) ∷ copy 6 1 1 0 (3 ∷ []) ∷ copy 7 1 2 0 (3 ∷ []) ∷ []) (cell 1 3 ∷ []) (record {
+      setup = pricedBoard 8 1 1 2 8 1;
+      account = account 0 0 0 0;
+      before = [];
+      requests = write 6 1 4 ∷ [];
+      values = 4 ∷ [];
+      answer = answered 1 0 0;
+      cost = cost 0 0 1;
+      left = account 1 0 0 1;
+      changes = true;
+      lines = copy 0 1 8 0 (4 ∷ []) ∷ copy 1 1 7 0 (4 ∷ []) ∷ copy 2 1 6 0 (4 ∷ []) ∷ copy 3 1 5 0 (4 ∷ []) ∷ copy 4 1 4 0 (4 ∷ []) ∷ copy 5 1 3 0 (4 ∷ []) ∷ copy 6 1 8 0 (4 ∷ []) ∷ copy 7 1 1 0 (4 ∷ []) ∷ [];
+      memory = cell 1 4 ∷ [];
+    })
+    -- each write charges whoever is then the weakest: two writes by 3, then one by 1
+    ∷ lentSession (copy 1 9 4 0 (0 ∷ 5 ∷ 0 ∷ 0 ∷ []) ∷ copy 9 9 3 0 (0 ∷ 5 ∷ 0 ∷ 0 ∷ []) ∷ copy 17 9 2 0 (0 ∷ 5 ∷ 0 ∷ 0 ∷ []) ∷ copy 25 9 4 0 (0 ∷ 5 ∷ 0 ∷ 0 ∷ []) ∷ []) (cell 37 5 ∷ []) (record {
+      setup = usual;
+      account = account 0 0 0 0;
+      before = [];
+      requests = write 3 38 6 ∷ write 3 38 7 ∷ write 1 38 8 ∷ [];
+      values = 6 ∷ 7 ∷ 8 ∷ [];
+      answer = answered 3 0 0;
+      cost = cost 0 0 3;
+      left = account 3 0 0 3;
+      changes = true;
+      lines = copy 1 9 3 0 (0 ∷ 5 ∷ 8 ∷ 0 ∷ []) ∷ copy 9 9 4 0 (0 ∷ 5 ∷ 8 ∷ 0 ∷ []) ∷ copy 25 9 4 0 (0 ∷ 5 ∷ 8 ∷ 0 ∷ []) ∷ [];
+      memory = cell 37 5 ∷ cell 38 8 ∷ [];
     })
     ∷ []

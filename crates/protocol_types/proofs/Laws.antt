@@ -2,14 +2,14 @@
 use Prim.Native.Nat.{ℕ, zero, suc, _+_, _≤_, _<_}
 use mathlib.Core.Path.{_≡_, refl, sym, _∙_}
 use mathlib.Core.Logic.{_≢_}
-use mathlib.Core.Bool.{Bool, true, false, _&&_, not, cond, true≢false}
+use mathlib.Core.Bool.{Bool, true, false, _&&_, _||_, not, cond, true≢false}
 use mathlib.Core.List.{List, [], _∷_}
 use native.Mathlib.Omega.{arith}
 use lib.ListN.{length, set}
 use lib.Seq.{getD-set-same, getD-set-other}
 use lib.Dec.{ltb, eqb}
-use borrow.Author.Tests.{not-true, not-false, ltb-true, ltb-false, eqb-true, eqb-false, ne-eqb}
-use Rattle.protocol_types.specs.Lists.{at, zeros, firstFrom, first, other, all}
+use borrow.Author.Tests.{not-true, not-false, ltb-true, ltb-false, eqb-true, eqb-false, eq-eqb, ne-eqb}
+use Rattle.protocol_types.specs.Lists.{at, zeros, firstFrom, first, other, smaller, argminBelow, argmin, all}
 
 -- ---- a test and what it says
 
@@ -141,6 +141,69 @@ other-some n i P m l d e = go (under? (other n i P) n)
     go : Under (other n i P) n → ltb (other n i P) n ≡ true
     go (under h p) = p
     go (over h p) = absurd (true≢false (sym e ∙ other-none n i P h m l d))
+
+-- ---- the smallest
+
+module _ (P : ℕ → Bool) (w : ℕ → ℕ) where
+  -- number k passes, is below m, has the smallest w of those that pass below m, and is the lowest among equals
+  pub record Smallest (m k : ℕ) : Type 0 where
+    pub below : k < m
+    pub passes : P k ≡ true
+    pub smallest : (j : ℕ) → j < m → P j ≡ true → w k ≤ w j
+    pub lowest : (j : ℕ) → j < k → P j ≡ true → w k < w j
+
+  -- there is only one
+  pub smallest-only : (m k j : ℕ) → Smallest m k → Smallest m j → k ≡ j
+  smallest-only m k j a b = go (under? k j) (under? j k)
+    where
+      go : Under k j → Under j k → k ≡ j
+      go (under l _) d = absurd (omega (arith, a .smallest j (b .below) (b .passes), b .lowest k l (a .passes)))
+      go (over h _) (under l _) = absurd (omega (arith, b .smallest k (a .below) (a .passes), a .lowest j l (b .passes)))
+      go (over h _) (over l _) = omega arith
+
+  -- one number more: k stays where that number is no smaller; that number is next where it is smaller than all before
+  stays : (m k : ℕ) → Smallest m k → (P m ≡ true → w k ≤ w m) → Smallest (suc m) k
+  stays m k a h =
+      record { below = omega (arith, a .below); passes = a .passes; smallest = λ j u q. go j u q (same? j m); lowest = a .lowest }
+    where
+      go : (j : ℕ) → j < suc m → P j ≡ true → Same j m → w k ≤ w j
+      go j u q (same e _) = rw e (h (rw e at q))
+      go j u q (apart d _) = a .smallest j (omega arith) q
+
+  next : (m : ℕ) → P m ≡ true → ((j : ℕ) → j < m → P j ≡ true → w m < w j) → Smallest (suc m) m
+  next m p h = record { below = omega arith; passes = p; smallest = λ j u q. go j u q (same? j m); lowest = h }
+    where
+      go : (j : ℕ) → j < suc m → P j ≡ true → Same j m → w m ≤ w j
+      go j u q (same e _) = rw e (omega arith)
+      go j u q (apart d _) = omega (arith, h j (omega arith) q)
+
+  module _ (none : ℕ) where
+    -- what the search below m gives
+    pub data Argmin (m k : ℕ) : Type 0 where
+      none-passes : k ≡ none → ((j : ℕ) → j < m → P j ≡ false) → Argmin m k
+      one-passes : Smallest m k → Argmin m k
+
+    pub argmin-below : (m : ℕ) → m ≤ none → Argmin m (argminBelow none P w m)
+    argmin-below zero l = none-passes refl (λ j u. absurd (omega arith))
+    argmin-below (suc m) l = go (argminBelow none P w m) (known (P m)) (argmin-below m (omega arith))
+      where
+        none-yet : P m ≡ false → ((j : ℕ) → j < m → P j ≡ false) → (j : ℕ) → j < suc m → Same j m → P j ≡ false
+        none-yet p f j u (same e _) = rw e p
+        none-yet p f j u (apart d _) = f j (omega arith)
+
+        go : (k : ℕ) → Known (P m) → Argmin m k → Argmin (suc m) (smaller none P w k m)
+        go k (sure p) (none-passes e f) = rw (p, eq-eqb k none e) (one-passes (next m p (λ j u q. absurd (true≢false (sym q ∙ f j u)))))
+        go k (sure p) (one-passes a) =
+            rw (p, ne-eqb k none (omega (arith, a .below)))
+            (choice (Argmin (suc m)) (ltb (w m) (w k))
+            (λ e. one-passes (next m p (λ j u q. omega (arith, ltb-true (w m) (w k) e, a .smallest j u q))))
+            (λ e. one-passes (stays m k a (λ q. ltb-false (w m) (w k) e))))
+        go k (not-so p) (none-passes e f) = rw p (none-passes e (λ j u. none-yet p f j u (same? j m)))
+        go k (not-so p) (one-passes a) = rw p (one-passes (stays m k a (λ q. absurd (true≢false (sym q ∙ p)))))
+
+  pub argmin-is : (n : ℕ) → Argmin n n (argmin n P w)
+  unfolding argmin
+  argmin-is n = argmin-below n n (omega arith)
 
 -- ---- every number below n
 
