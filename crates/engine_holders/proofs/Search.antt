@@ -1,14 +1,20 @@
--- Another holder, the payer and the owner, as searches for the first processor that passes the tests of specs/Searches; by the definitions.
--- Assumes nothing.
-use Prim.Native.Nat.{ℕ}
-use mathlib.Core.Path.{_≡_, refl}
+-- Another holder and the owner as searches for the first processor that passes a test of specs/Searches, and the payer as a search for the smallest counter
+-- that starts at the first other holder. Assumes nothing.
+use Prim.Native.Nat.{ℕ, _+_, _≤_, _<_}
+use mathlib.Core.Path.{_≡_, refl, sym, _∙_}
+use mathlib.Core.Bool.{true, false}
+use native.Mathlib.Numerals.{add-one}
+use native.Mathlib.Omega.{arith}
 use lib.Dec.{ltb}
+use borrow.Author.Tests.{lt-ltb, le-ltb, ne-eqb}
 use Rattle.protocol_types.specs.Lists.{first, other}
-use Rattle.protocol.specs.Tables.{Tables, sharing}
+use Rattle.protocol_types.specs.Board.{slot}
+use Rattle.protocol.specs.Tables.{Tables, counter, sharing}
 use Rattle.protocol.specs.Rules.{payer, owner}
 use Rattle.protocol_types.specs.declared.Setup.{Setup}
 use Rattle.protocol_types.specs.declared.Block.{Block}
-use Rattle.engine_holders.specs.Searches.{otherHolds, otherHolder, owns}
+use Rattle.protocol_types.proofs.Laws.{first-holds, first-none, first-before, argmin-none, argmin-one}
+use Rattle.engine_holders.specs.Searches.{otherHolds, otherHolder, weakestBelow, weaker, owns}
 
 module _ (s : Setup) (t : Tables) (b : Block) where
   pub other-holder-is : (i : ℕ) → first (s .processors) (otherHolds s t i b) ≡ otherHolder s t i b
@@ -19,10 +25,49 @@ module _ (s : Setup) (t : Tables) (b : Block) where
   unfolding otherHolder sharing
   sharing-is i = refl
 
-  pub payer-is : (i : ℕ) → otherHolder s t i b ≡ payer s t i b
-  unfolding otherHolder payer
-  payer-is i = refl
-
   pub owner-is : first (s .processors) (owns s t b) ≡ owner s t b
   unfolding owner owns
   owner-is = refl
+
+  module _ (i : ℕ) where
+    -- ---- the whole search for the payer, and its start: there is no other holder, or k is the first
+
+    pub payer-search-ended : weakestBelow s t i b (s .processors) ≡ payer s t i b
+    unfolding weakestBelow payer otherHolds
+    payer-search-ended = refl
+
+    module _ (k : ℕ) (found : k ≡ otherHolder s t i b) where
+      before-first : (j : ℕ) → j < k → otherHolds s t i b j ≡ false
+      before-first j l = first-before (s .processors) (otherHolds s t i b) j (omega (arith, found, other-holder-is i))
+
+      pub payer-search-none : s .processors ≤ k → s .processors ≡ payer s t i b
+      unfolding weakestBelow
+      payer-search-none h = sym (argmin-none (otherHolds s t i b) _ (s .processors) (s .processors) (λ j l. before-first j (omega arith))) ∙ payer-search-ended
+
+      pub payer-search-started : k < s .processors → weakestBelow s t i b (k + 1) ≡ k
+      unfolding weakestBelow
+      payer-search-started h =
+          let e = found ∙ sym (other-holder-is i) in
+          rw (add-one k)
+          (argmin-one (otherHolds s t i b) _ (s .processors) k before-first
+          (rw (← e) at (first-holds (s .processors) (otherHolds s t i b) (omega (arith, e)))))
+
+    -- ---- its step
+
+    pub payer-search-next : (m : ℕ) → weakestBelow s t i b (m + 1) ≡ weaker s t i b (weakestBelow s t i b m) m
+    unfolding weakestBelow weaker
+    payer-search-next m = rw (add-one m)
+
+    module _ (k j : ℕ) where
+      pub weaker-passed : otherHolds s t i b j ≡ false → k ≡ weaker s t i b k j
+      unfolding weaker
+      weaker-passed e = rw e
+
+      module _ (held : k < s .processors) (e : otherHolds s t i b j ≡ true) where
+        pub weaker-kept : counter t (slot s k b) ≤ counter t (slot s j b) → k ≡ weaker s t i b k j
+        unfolding weaker
+        weaker-kept h = rw (e, ne-eqb k (s .processors) (omega arith), le-ltb _ _ h)
+
+        pub weaker-taken : counter t (slot s j b) < counter t (slot s k b) → j ≡ weaker s t i b k j
+        unfolding weaker
+        weaker-taken h = rw (e, ne-eqb k (s .processors) (omega arith), lt-ltb _ _ h)

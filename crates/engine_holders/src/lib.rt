@@ -10,7 +10,7 @@ ghost use Rattle.protocol_types.specs.Board.{Fits};
 ghost use Rattle.protocol.specs.Tables.{holdsAt, holds, sharing};
 ghost use Rattle.protocol.specs.Lent.{before, unlent, PerSlot, PerSlotWord};
 ghost use Rattle.protocol.specs.Rules.{payer, owner, updatedCopies};
-ghost use Rattle.engine_holders.specs.Searches.{otherHolds, otherHolder, owns, updatedCopy};
+ghost use Rattle.engine_holders.specs.Searches.{otherHolds, otherHolder, weaker, owns, updatedCopy};
 
 // Whether slot k holds a block.
 fn line_holds(k: usize, block: Block, blocks: &[u32], counters: &[u32]) -> bool
@@ -54,7 +54,7 @@ fn other_holds(
 }
 
 // The lowest-numbered other holder; the number of processors where there is none.
-// This is the search for the payer, and it counts processors in a byte (document 02, P3). A byte is enough, because the count ends at N and N is at most 8
+// The search for the payer starts with it, and it counts processors in a byte (document 02, P3). A byte is enough, because the count ends at N and N is at most 8
 // (`few-processors` of `Fits`): `add-other` in proofs/other_holder proves that the next number always fits.
 fn other_holder(setup: Setup, processor: u32, block: Block, blocks: &[u32], counters: &[u32]) -> u32
     requires { ⌜ Fits setup ⌝ }
@@ -81,13 +81,58 @@ pub fn shares(setup: Setup, processor: u32, block: Block, blocks: &[u32], counte
     other_holder(setup, processor, block, blocks, counters) < setup.processors
 }
 
-// The payer of a write: the lowest-numbered other holder; the number of processors where there is none.
+// Processor j if it is another holder and its counter is smaller than that of processor `weakest`; else `weakest`.
+fn weaker(
+    setup: Setup,
+    processor: u32,
+    block: Block,
+    weakest: u32,
+    j: u32,
+    blocks: &[u32],
+    counters: &[u32],
+) -> u32
+    requires { ⌜ Fits setup ⌝ }
+    requires { ⌜ (weakest < setup .processors) × (j < setup .processors) ⌝ }
+    requires { ⌜ PerSlot setup blocks × PerSlot setup counters ⌝ }
+    ensures { λ r. ⌜ ((m w g : List ℕ) → r ≡ weaker setup (before blocks counters (unlent m) (unlent w) (unlent g)) processor block weakest j) ⌝ }
+    ensures { λ r. ⌜ r < setup .processors ⌝ }
+{
+    if !other_holds(setup, processor, block, j, blocks, counters) {
+        return weakest;
+    }
+    if counters[setup.slot(weakest, block)] <= counters[setup.slot(j, block)] {
+        return weakest;
+    }
+    j
+}
+
+// The payer of a write: the other holder with the smallest counter, the lowest processor among equals; the number of processors where there is none.
+// From the first other holder on, every processor is looked at; this search counts in a byte too (P3).
 pub fn payer(setup: Setup, processor: u32, block: Block, blocks: &[u32], counters: &[u32]) -> u32
     requires { ⌜ Fits setup ⌝ }
     requires { ⌜ PerSlot setup blocks × PerSlot setup counters ⌝ }
     ensures { λ r. ⌜ ((m w g : List ℕ) → r ≡ payer setup (before blocks counters (unlent m) (unlent w) (unlent g)) processor block) ⌝ }
 {
-    other_holder(setup, processor, block, blocks, counters)
+    let n = setup.processors;
+    let first = other_holder(setup, processor, block, blocks, counters);
+    if n <= first {
+        return n;
+    }
+    let mut weakest = first;
+    let mut next: u8 = first as u8 + 1;
+    while (next as u32) < n {
+        weakest = weaker(
+            setup,
+            processor,
+            block,
+            weakest,
+            next as u32,
+            blocks,
+            counters,
+        );
+        next += 1;
+    }
+    weakest
 }
 
 // Whether processor j has a block marked.

@@ -101,11 +101,11 @@ firstFrom-holds zero j P h = absurd (omega arith)
 firstFrom-holds (suc d) j P h =
     choice (λ z. z < j + suc d → P z ≡ true) (P j) (λ e l. e) (λ e l. firstFrom-holds d (suc j) P (omega arith)) h
 
-pub firstFrom-none : (d j : ℕ) (P : ℕ → Bool) → j + d ≤ firstFrom d j P → (m : ℕ) → j ≤ m → m < j + d → P m ≡ false
-firstFrom-none zero j P h m l u = absurd (omega arith)
-firstFrom-none (suc d) j P h m l u =
-    choice (λ z. j + suc d ≤ z → P m ≡ false) (P j) (λ e g. absurd (omega arith))
-    (λ e g. go e (λ l′. firstFrom-none d (suc j) P (omega arith) m l′ (omega arith)) (same? m j)) h
+pub firstFrom-before : (d j : ℕ) (P : ℕ → Bool) (m : ℕ) → j ≤ m → m < firstFrom d j P → P m ≡ false
+firstFrom-before zero j P m l u = absurd (omega arith)
+firstFrom-before (suc d) j P m l u =
+    choice (λ z. m < z → P m ≡ false) (P j) (λ e g. absurd (omega arith))
+    (λ e g. go e (λ l′. firstFrom-before d (suc j) P m l′ g) (same? m j)) u
   where
     go : P j ≡ false → (suc j ≤ m → P m ≡ false) → Same m j → P m ≡ false
     go e f (same p q) = rw p e
@@ -115,9 +115,13 @@ pub first-holds : (n : ℕ) (P : ℕ → Bool) → first n P < n → P (first n 
 unfolding first
 first-holds n P h = firstFrom-holds n 0 P (omega arith)
 
-pub first-none : (n : ℕ) (P : ℕ → Bool) → n ≤ first n P → (m : ℕ) → m < n → P m ≡ false
+-- none before it passes
+pub first-before : (n : ℕ) (P : ℕ → Bool) (m : ℕ) → m < first n P → P m ≡ false
 unfolding first
-first-none n P h m l = firstFrom-none n 0 P (omega arith) m (omega arith) (omega arith)
+first-before n P m l = firstFrom-before n 0 P m (omega arith) l
+
+pub first-none : (n : ℕ) (P : ℕ → Bool) → n ≤ first n P → (m : ℕ) → m < n → P m ≡ false
+first-none n P h m l = first-before n P m (omega arith)
 
 -- what the search for another one finds
 pub record Another (i : ℕ) (P : ℕ → Bool) (j : ℕ) : Type 0 where
@@ -201,8 +205,15 @@ module _ (P : ℕ → Bool) (w : ℕ → ℕ) where
         go k (not-so p) (none-passes e f) = rw p (none-passes e (λ j u. none-yet p f j u (same? j m)))
         go k (not-so p) (one-passes a) = rw p (one-passes (stays m k a (λ q. absurd (true≢false (sym q ∙ p)))))
 
+    -- where none passes, and one number further, where that one does
+    pub argmin-none : (m : ℕ) → ((j : ℕ) → j < m → P j ≡ false) → argminBelow none P w m ≡ none
+    argmin-none zero f = refl
+    argmin-none (suc m) f = rw (f m (omega arith)) (argmin-none m (λ j u. f j (omega arith)))
+
+    pub argmin-one : (m : ℕ) → ((j : ℕ) → j < m → P j ≡ false) → P m ≡ true → argminBelow none P w (suc m) ≡ m
+    argmin-one m f p = rw (argmin-none m f, p, eq-eqb none none refl)
+
   pub argmin-is : (n : ℕ) → Argmin n n (argmin n P w)
-  unfolding argmin
   argmin-is n = argmin-below n n (omega arith)
 
 -- ---- every number below n
