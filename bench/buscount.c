@@ -40,10 +40,7 @@ static void put(int i, uint32_t b, uint32_t o, uint32_t x) {
     uint32_t l = b % L;
     int payer = N;
     for (int j = 0; j < N; j++)
-        if (j != i && holds(j, b)) {
-            payer = j;
-            break;
-        }
+        if (j != i && holds(j, b) && (payer == N || counter[j][l] < counter[payer][l])) payer = j;
     counter[i][l] = FETCH_PRICE;
     if (payer == N) {
         words[i][l][o] = x;

@@ -63,10 +63,10 @@ begin
   payer := N;
   for j := 0 to N - 1 do
     if (j <> i) and Holds(j, b) then
-    begin
-      payer := j;
-      break;
-    end;
+      if payer = N then
+        payer := j
+      else if counters[j, k] < counters[payer, k] then
+        payer := j;
   counters[i, k] := FetchPrice;
   if payer = N then
   begin

@@ -59,7 +59,7 @@ impl Board {
 
     fn put(&mut self, i: usize, b: usize, o: usize, x: u32) {
         let l = b % L;
-        let payer = (0..N).find(|&j| j != i && self.holds(j, b));
+        let payer = (0..N).filter(|&j| j != i && self.holds(j, b)).min_by_key(|&j| self.caches[j][l].counter);
         self.caches[i][l].counter = FETCH_PRICE;
         match payer {
             None => {

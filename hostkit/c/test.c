@@ -172,6 +172,19 @@ static void s9(void) {
     check(line_0(&h, 0, 3, 0) && line_0(&h, 1, 4, 0) && line_0(&h, 2, 4, 0), "0 pays");
 }
 
+/* Beside S9: counters 4 and 2. */
+static void weakest_pays(void) {
+    struct host h = fresh(SETUP);
+    reads(&h, 0, 0, 0, FETCH);
+    reads(&h, 2, 0, 0, FETCH);
+    writes(&h, 0, 0, 5, UPDATE);
+    writes(&h, 0, 0, 6, UPDATE);
+    reads(&h, 1, 0, 6, FETCH);
+    check(line_0(&h, 0, 4, 0) && line_0(&h, 2, 2, 0), "counters 4 and 2");
+    writes(&h, 1, 0, 7, UPDATE);
+    check(line_0(&h, 0, 4, 0) && line_0(&h, 1, 4, 0) && line_0(&h, 2, 1, 0), "2 pays");
+}
+
 static void s10(void) {
     struct host h = fresh(ONE_WORD);
     struct cycles fetch = {1, 0, 0};

@@ -96,6 +96,32 @@ pub(crate) fn other_holder(cells: &Cells, i: u32, b: u32) -> u32 {
     found
 }
 
+// The lowest-numbered processor other than i whose copy of block b has counter c; PROCESSORS if none.
+fn other_with(cells: &Cells, i: u32, b: u32, c: u32) -> u32 {
+    let mut j = 0;
+    while j < PROCESSORS {
+        if j != i && counter(cells, j, b) == c {
+            return j;
+        }
+        j += 1;
+    }
+    PROCESSORS
+}
+
+// Who pays for a write to block b by processor i; PROCESSORS if no other has a copy. The counters are tried from 1 up to a full one.
+pub(crate) fn payer(cells: &Cells, full: u32, i: u32, b: u32) -> u32 {
+    let mut c = 0;
+    let mut found = PROCESSORS;
+    while c < full {
+        c += 1;
+        found = other_with(cells, i, b, c);
+        if found < PROCESSORS {
+            break;
+        }
+    }
+    found
+}
+
 // Whether processor i has block a, and a may stand only where b may, of `lines` lines.
 fn collides(cells: &Cells, lines: u32, i: u32, a: u32, b: u32) -> bool {
     if counter(cells, i, a) == 0 {

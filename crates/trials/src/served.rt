@@ -4,9 +4,9 @@ use crate::board::PROCESSORS;
 use crate::board::counter;
 use crate::board::current;
 use crate::board::in_the_way;
-use crate::board::other_holder;
 use crate::board::owner;
 use crate::board::owns;
+use crate::board::payer;
 use crate::board::save;
 use crate::board::set_counter;
 use crate::board::set_current;
@@ -109,14 +109,14 @@ fn bring(cells: &mut Cells, setup: Setup, i: u32, b: u32) -> Moved {
 fn change(cells: &mut Cells, fetch_price: u32, i: u32, b: u32, v: u32, x: u32) -> u32 {
     set_counter(cells, i, b, fetch_price);
     set_current(cells, v, x);
-    let payer = other_holder(cells, i, b);
-    if payer >= PROCESSORS {
+    let j = payer(cells, fetch_price, i, b);
+    if j >= PROCESSORS {
         set_owner(cells, b, sum(i, 1));
         return 0;
     }
     set_stored(cells, v, x);
-    let left = less(counter(cells, payer, b), 1);
-    set_counter(cells, payer, b, left);
+    let left = less(counter(cells, j, b), 1);
+    set_counter(cells, j, b, left);
     1
 }
 

@@ -62,16 +62,32 @@ fn holds(cells: &Cells, i: u32, b: u32) -> bool {
     get(cells, NUMBERS, k) == b
 }
 
-// The first processor other than i that holds block b; PROCESSORS if none does.
-fn other_holder(cells: &Cells, i: u32, b: u32) -> u32 {
-    let mut j = 0;
-    while j < PROCESSORS {
-        if j != i && holds(cells, j, b) {
-            return j;
-        }
-        j += 1;
+// The counter of processor j's copy of block b; 0 if it has none, or is processor i.
+fn other_counter(cells: &Cells, i: u32, j: u32, b: u32) -> u32 {
+    if j == i {
+        return 0;
     }
-    PROCESSORS
+    if holds(cells, j, b) {
+        return get(cells, COUNTERS, slot(j, b));
+    }
+    0
+}
+
+// The processor other than i that holds block b with the smallest counter, the lowest among equals; PROCESSORS if none
+// holds it. It is sought from the top, and no counter is over FETCH_PRICE.
+fn payer(cells: &Cells, i: u32, b: u32) -> u32 {
+    let mut found = PROCESSORS;
+    let mut smallest = FETCH_PRICE;
+    let mut j = PROCESSORS;
+    while j > 0 {
+        j -= 1;
+        let c = other_counter(cells, i, j, b);
+        if c > 0 && c <= smallest {
+            found = j;
+            smallest = c;
+        }
+    }
+    found
 }
 
 // A marked line gives its words to main memory: the cycles of it.
@@ -155,15 +171,15 @@ fn pay(cells: &mut Cells, k: u32) {
 fn write(cells: &mut Cells, i: u32, v: u32, x: u32) -> u32 {
     let b = quotient(v, BLOCK_WORDS);
     let k = slot(i, b);
-    let payer = other_holder(cells, i, b);
+    let paying = payer(cells, i, b);
     put(cells, COUNTERS, k, FETCH_PRICE);
     update_lines(cells, v, x);
-    if payer >= PROCESSORS {
+    if paying >= PROCESSORS {
         put(cells, MARKS, k, 1);
         return 0;
     }
     put(cells, MEMORY, v, x);
-    pay(cells, slot(payer, b));
+    pay(cells, slot(paying, b));
     1
 }
 

@@ -116,19 +116,22 @@ impl Board<'_> {
         let slot = i * self.l + line;
         self.counters[slot] = self.fetch_price;
         self.words[slot * self.p + offset] = value;
-        let Some(payer) = self.other_holder(i, line, block) else {
+        let Some(first) = self.other_holder(i, line, block) else {
             self.marks[slot] = 1;
             return;
         };
-        for j in payer..self.n {
+        let mut paying = first * self.l + line;
+        for j in first..self.n {
             let other = j * self.l + line;
             if self.holds(other, block) {
                 self.words[other * self.p + offset] = value;
+                if j != i && self.counters[other] < self.counters[paying] {
+                    paying = other;
+                }
             }
         }
         self.memory[block as usize * self.p + offset] = value;
         bill.update += 1;
-        let paying = payer * self.l + line;
         self.counters[paying] -= 1;
         if self.counters[paying] == 0 {
             self.empty(paying);

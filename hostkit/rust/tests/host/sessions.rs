@@ -164,7 +164,7 @@ fn s8_an_unmarked_block_goes_for_nothing() {
 }
 
 #[test]
-fn s9_the_lowest_other_holder_pays() {
+fn s9_of_equal_counters_the_lowest_pays() {
     let mut host = Host::fresh(TRACE_SETUP);
     for processor in 0..3 {
         host.read(processor, 0);
@@ -173,6 +173,48 @@ fn s9_the_lowest_other_holder_pays() {
     assert_eq!(host.line_0(0), (3, 0));
     assert_eq!(host.line_0(1), (4, 0));
     assert_eq!(host.line_0(2), (4, 0));
+}
+
+/// Beside S9: counters 4 and 2.
+#[test]
+fn the_weakest_other_holder_pays() {
+    let mut host = Host::fresh(TRACE_SETUP);
+    host.read(0, 0);
+    host.read(2, 0);
+    host.write(0, 0, 5);
+    host.write(0, 0, 6);
+    host.read(1, 0);
+    assert_eq!((host.line_0(0), host.line_0(2)), ((4, 0), (2, 0)));
+    assert_eq!(host.write(1, 0, 7), (7, [0, 0, 1]));
+    assert_eq!(host.line_0(0), (4, 0));
+    assert_eq!(host.line_0(1), (4, 0));
+    assert_eq!(host.line_0(2), (1, 0));
+}
+
+/// Tables as a host may lend them: four copies of block 0, with these counters.
+fn lent_counters(counters: [u32; 4]) -> Host {
+    let mut host = Host::fresh(TRACE_SETUP);
+    for (processor, counter) in counters.into_iter().enumerate() {
+        host.tables.counters[processor * TRACE_SETUP.lines as usize] = counter;
+    }
+    host
+}
+
+#[test]
+fn the_payer_on_lent_tables() {
+    // the counters, the writer, and the counters after its write
+    let cases = [
+        ([4, 2, 2, 3], 3, [4, 1, 2, 4]),
+        ([3, 2, 4, 4], 3, [3, 1, 4, 4]),
+        ([3, 4, 2, 1], 1, [3, 4, 2, 0]),
+        ([1, 3, 2, 3], 0, [4, 3, 1, 3]),
+        ([3, 3, 1, 3], 2, [2, 3, 4, 3]),
+    ];
+    for (counters, writer, after) in cases {
+        let mut host = lent_counters(counters);
+        assert_eq!(host.write(writer, 0, 5), (5, [0, 0, 1]));
+        assert_eq!([0, 1, 2, 3].map(|i| host.line_0(i)), after.map(|c| (c, 0)));
+    }
 }
 
 #[test]

@@ -118,10 +118,14 @@ impl Caches {
     /// Rules 4 and 5.
     fn write(&mut self, i: u32, block: u32, offset: usize, value: u32, bill: &mut Ledger) {
         let others: Vec<u32> = self.holders(block).filter(|&j| j != i).collect();
+        let weakest = others
+            .iter()
+            .copied()
+            .min_by_key(|&j| (self.copies[&(j, block)].counter, j));
         let own = self.copies.get_mut(&(i, block)).expect("held");
         own.counter = self.board.f;
         own.words[offset] = value;
-        let Some(&payer) = others.first() else {
+        let Some(payer) = weakest else {
             own.dirty = true;
             return;
         };

@@ -1,24 +1,24 @@
 -- It promises nothing but to be safe and to end: each index, sum and cast fits, and the loop comes nearer to its end.
 use borrow.Author.Needs.{needs}
 use Prim.Native.Nat.{_≤_, _-_}
-use Rattle.trials_trace.proofs.tables.other_holder.Statement.{statement}
-use Rattle.trials_trace.proofs.tables.other_holder.Tie as tie
+use Rattle.trials.proofs.board.payer.Statement.{statement}
+use Rattle.trials.proofs.board.payer.Tie as tie
 
 abbrev Inv-loop : tie.InvT-loop
-Inv-loop cells i b j₀ j = 0 ≤ j
+Inv-loop cells full i b c₀ found₀ c found = 0 ≤ c
 
 abbrev μ-loop : tie.MeasureT-loop
-μ-loop cells i b j₀ j = 4 - j
+μ-loop cells full i b c₀ found₀ c found = full - c
 
-pub other-holder-spec : {M : Type 1} → statement M
-other-holder-spec =
+pub payer-spec : {M : Type 1} → statement M
+payer-spec =
     tie.close
     (tie.spec
     Inv-loop
     μ-loop
     (λ c. search needs)
-    (λ c κs. search needs)
     (λ c. search needs)
+    (λ c κs. search needs)
     (λ c. search needs)
     (λ c. search needs)
     (λ c. search needs)

@@ -1,0 +1,25 @@
+-- It promises nothing but to be safe and to end: each index, sum and cast fits, and the loop comes nearer to its end.
+use borrow.Author.Needs.{needs}
+use Prim.Native.Nat.{_≤_, _-_}
+use Rattle.trials.proofs.board.other_with.Statement.{statement}
+use Rattle.trials.proofs.board.other_with.Tie as tie
+
+abbrev Inv-loop : tie.InvT-loop
+Inv-loop cells i b c j₀ j = 0 ≤ j
+
+abbrev μ-loop : tie.MeasureT-loop
+μ-loop cells i b c j₀ j = 8 - j
+
+pub other-with-spec : {M : Type 1} → statement M
+other-with-spec =
+    tie.close
+    (tie.spec
+    Inv-loop
+    μ-loop
+    (λ c. search needs)
+    (λ c κs. search needs)
+    (λ c. search needs)
+    (λ c. search needs)
+    (λ c. search needs)
+    (λ c. search needs)
+    (λ c. search needs))
