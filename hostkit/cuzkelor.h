@@ -32,7 +32,7 @@ extern "C" {
 /* ---- Numbers ---- */
 
 /* The version of what the archive exports and of what it means. */
-#define CUZKELOR_VERSION 3
+#define CUZKELOR_VERSION 4
 
 /* Why something is refused: name, number, what is refused, the condition in words.
  *
@@ -160,6 +160,10 @@ size_t cuzkelor_look_length(uint32_t processors, uint32_t lines, uint32_t block_
 /* Serves requests in turn, to the first refused one, and adds to the account: 1 to its requests for each one taken, and
  * the cycles of each kind. A request is four numbers: processor, operation, variable, value (of a read it plays no
  * part). values has one word for each request, which gets the value supplied or written.
+ *
+ * A write to a block that other caches hold too lowers the smallest of their counters by 1, of equal ones the lowest
+ * processor's, and at 0 that line becomes empty. In versions 1 to 3 it was the lowest other holder's, whatever the
+ * counters.
  *
  * Checks 1, 10, 2, 20, 21, then for each request 3, 4, 22. 2 also meets a list that is no whole number of requests, and
  * values of another length than the list. 21: fetch cycles over fetch_price x requests, write-back cycles over

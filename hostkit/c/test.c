@@ -503,7 +503,7 @@ static void a_trace_refused_at_once(void) {
 }
 
 static void version(void) {
-    check(cuzkelor_version() == 3 && CUZKELOR_VERSION == 3, "version 3");
+    check(cuzkelor_version() == 4 && CUZKELOR_VERSION == 4, "version 4");
     check(cuzkelor_version_matches(), "the archive belongs to the header");
 }
 
@@ -567,6 +567,7 @@ int main(void) {
                  {"S7", s7},
                  {"S8", s8},
                  {"S9", s9},
+                 {"beside S9", weakest_pays},
                  {"S10", s10},
                  {"S11", s11},
                  {"S12", s12},

@@ -96,27 +96,26 @@ pub(crate) fn other_holder(cells: &Cells, i: u32, b: u32) -> u32 {
     found
 }
 
-// The lowest-numbered processor other than i whose copy of block b has counter c; PROCESSORS if none.
-fn other_with(cells: &Cells, i: u32, b: u32, c: u32) -> u32 {
-    let mut j = 0;
-    while j < PROCESSORS {
-        if j != i && counter(cells, j, b) == c {
-            return j;
-        }
-        j += 1;
+// The counter of processor j's copy of block b; 0 if it has none, or is processor i.
+fn other_counter(cells: &Cells, i: u32, j: u32, b: u32) -> u32 {
+    if j == i {
+        return 0;
     }
-    PROCESSORS
+    counter(cells, j, b)
 }
 
-// Who pays for a write to block b by processor i; PROCESSORS if no other has a copy. The counters are tried from 1 up to a full one.
+// Who pays for a write to block b by processor i: of the others the one with the smallest counter, the lowest among
+// equals; PROCESSORS if no other has a copy. It is sought from the top, and no counter is over `full`.
 pub(crate) fn payer(cells: &Cells, full: u32, i: u32, b: u32) -> u32 {
-    let mut c = 0;
     let mut found = PROCESSORS;
-    while c < full {
-        c += 1;
-        found = other_with(cells, i, b, c);
-        if found < PROCESSORS {
-            break;
+    let mut smallest = full;
+    let mut j = PROCESSORS;
+    while j > 0 {
+        j -= 1;
+        let c = other_counter(cells, i, j, b);
+        if c > 0 && c <= smallest {
+            found = j;
+            smallest = c;
         }
     }
     found

@@ -55,6 +55,10 @@ pub fn look(setup: Setup, tables: &Tables, processor: u32, block: Block) -> &[u3
 /// Serves the requests in turn, to the first refused one, and adds to the account. `values` has one
 /// word for each request, which gets the value supplied or written.
 ///
+/// A write to a block that other caches hold too lowers the smallest of their counters by 1, of equal
+/// ones the lowest processor's, and at 0 that line becomes empty. (Up to version 0.3 it was the lowest
+/// other holder's, whatever the counters.)
+///
 /// ```
 /// use cuzkelor::{run, Account, Request, Tables, Variable, TRACE_SETUP};
 ///

@@ -116,7 +116,7 @@ fn trace_errors() {
 fn version() {
     // SAFETY: takes nothing.
     let archive = unsafe { raw::cuzkelor_version() };
-    assert_eq!((archive, raw::CUZKELOR_VERSION), (3, 3));
+    assert_eq!((archive, raw::CUZKELOR_VERSION), (4, 4));
 }
 
 #[test]
