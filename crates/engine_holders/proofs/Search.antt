@@ -9,12 +9,12 @@ use lib.Dec.{ltb}
 use borrow.Author.Tests.{lt-ltb, le-ltb, ne-eqb}
 use Rattle.protocol_types.specs.Lists.{first, other}
 use Rattle.protocol_types.specs.Board.{slot}
-use Rattle.protocol.specs.Tables.{Tables, counter, sharing}
+use Rattle.protocol.specs.Tables.{Tables, counter, otherHolds, sharing}
 use Rattle.protocol.specs.Rules.{payer, owner}
 use Rattle.protocol_types.specs.declared.Setup.{Setup}
 use Rattle.protocol_types.specs.declared.Block.{Block}
 use Rattle.protocol_types.proofs.Laws.{first-holds, first-none, first-before, argmin-none, argmin-one}
-use Rattle.engine_holders.specs.Searches.{otherHolds, otherHolder, weakestBelow, weaker, owns}
+use Rattle.engine_holders.specs.Searches.{otherHolder, weakestBelow, weaker, owns}
 
 module _ (s : Setup) (t : Tables) (b : Block) where
   pub other-holder-is : (i : ℕ) → first (s .processors) (otherHolds s t i b) ≡ otherHolder s t i b
@@ -33,7 +33,7 @@ module _ (s : Setup) (t : Tables) (b : Block) where
     -- ---- the whole search for the payer, and its start: there is no other holder, or k is the first
 
     pub payer-search-ended : weakestBelow s t i b (s .processors) ≡ payer s t i b
-    unfolding weakestBelow payer otherHolds
+    unfolding weakestBelow payer
     payer-search-ended = refl
 
     module _ (k : ℕ) (found : k ≡ otherHolder s t i b) where

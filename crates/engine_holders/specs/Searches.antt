@@ -1,28 +1,23 @@
 -- The tests that the searches make, what they find, and one copy updated.
 use Prim.Native.Nat.{ℕ}
-use mathlib.Core.Bool.{Bool, not, _&&_, cond}
+use mathlib.Core.Bool.{Bool, _&&_, cond}
 use mathlib.Core.List.{List}
 use lib.ListN.{set}
-use lib.Dec.{eqb}
 use Rattle.protocol_types.specs.Lists.{other, smaller, argminBelow}
 use Rattle.protocol_types.specs.Board.{slot, wordIndex}
-use Rattle.protocol.specs.Tables.{Tables, counter, holds, marked}
+use Rattle.protocol.specs.Tables.{Tables, counter, holds, otherHolds, marked}
 use Rattle.protocol_types.specs.declared.Setup.{Setup}
 use Rattle.protocol_types.specs.declared.Block.{Block}
 
--- processor j is another one than i and holds block b
-unfoldable pub otherHolds : Setup → Tables → ℕ → Block → ℕ → Bool
-otherHolds s t i b j = not (eqb j i) && holds s t j b
-
--- the first such: what protocol's `sharing` looks for
+-- the first holder of block b other than i: what protocol's `sharing` looks for
 unfoldable pub otherHolder : Setup → Tables → ℕ → Block → ℕ
 otherHolder s t i b = other (s .processors) i (λ j. holds s t j b)
 
--- of such ones below m the one with the smallest counter, the lowest among equals: protocol's `payer` is that of all
+-- of those below m the one with the smallest counter, the lowest among equals: protocol's `payer` is that of all
 unfoldable pub weakestBelow : Setup → Tables → ℕ → Block → ℕ → ℕ
 weakestBelow s t i b m = argminBelow (s .processors) (otherHolds s t i b) (λ j. counter t (slot s j b)) m
 
--- its step from m to m + 1: j if it is such a one and its counter is smaller than that of k, else k
+-- its step from m to m + 1: j if it is another holder and its counter is smaller than that of k, else k
 unfoldable pub weaker : Setup → Tables → ℕ → Block → ℕ → ℕ → ℕ
 weaker s t i b k j = smaller (s .processors) (otherHolds s t i b) (λ j. counter t (slot s j b)) k j
 

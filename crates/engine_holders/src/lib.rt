@@ -7,20 +7,20 @@ ghost use mathlib.Core.List.{List};
 ghost use Prim.Native.Nat.{ℕ, _<_};
 ghost use lib.ListN.{length};
 ghost use Rattle.protocol_types.specs.Board.{Fits};
-ghost use Rattle.protocol.specs.Tables.{holdsAt, holds, sharing};
+ghost use Rattle.protocol.specs.Tables.{holdsAt, holds, otherHolds, sharing};
 ghost use Rattle.protocol.specs.Lent.{before, unlent, PerSlot, PerSlotWord};
 ghost use Rattle.protocol.specs.Rules.{payer, owner, updatedCopies};
-ghost use Rattle.engine_holders.specs.Searches.{otherHolds, otherHolder, weaker, owns, updatedCopy};
+ghost use Rattle.engine_holders.specs.Searches.{otherHolder, weaker, owns, updatedCopy};
 
-// Whether slot k holds a block.
+// Whether slot k holds a block. The block number is tested first: in a cache in use few lines are empty, and it decides.
 fn line_holds(k: usize, block: Block, blocks: &[u32], counters: &[u32]) -> bool
     requires { ⌜ (k < length (now blocks)) × (k < length (now counters)) ⌝ }
     ensures { λ r. ⌜ ((m w g : List ℕ) → r ≡ holdsAt (before blocks counters (unlent m) (unlent w) (unlent g)) k block) ⌝ }
 {
-    if counters[k] == 0 {
+    if blocks[k] != block.0 {
         return false;
     }
-    blocks[k] == block.0
+    counters[k] > 0
 }
 
 // Whether a processor holds a block.

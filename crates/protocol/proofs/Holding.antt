@@ -2,13 +2,13 @@
 use Prim.Native.Nat.{ℕ, _/_, _%_, _≤_, _<_}
 use mathlib.Core.Path.{_≡_, sym, _∙_}
 use mathlib.Core.Logic.{_≢_}
-use mathlib.Core.Bool.{Bool, true, false, _&&_, not, true≢false}
+use mathlib.Core.Bool.{true, false, _&&_, true≢false}
 use native.Mathlib.Omega.{arith}
-use lib.Dec.{ltb, eqb}
+use lib.Dec.{ltb}
 use borrow.Author.Tests.{not-true, ltb-true, ltb-false, eqb-true, eqb-false, lt-ltb, le-ltb, eq-eqb, ne-eqb}
 use Rattle.protocol_types.specs.Lists.{other}
 use Rattle.protocol_types.specs.Board.{Fits, slot, lineOf}
-use Rattle.protocol.specs.Tables.{Tables, counter, block, mark, holdsAt, holds, sharing, marked}
+use Rattle.protocol.specs.Tables.{Tables, counter, block, mark, holdsAt, holds, otherHolds, sharing, marked}
 use Rattle.protocol.specs.Rules.{owner, payer}
 use Rattle.protocol_types.specs.declared.Setup.{Setup}
 use Rattle.protocol_types.specs.declared.Block.{Block}
@@ -68,52 +68,51 @@ module _ (s : Setup) (t : Tables) (i : ℕ) (b : Block) where
     pub smallest : (j : ℕ) → j < s .processors → j ≢ i → holds s t j b ≡ true → counter t (slot s k b) ≤ counter t (slot s j b)
     pub lowest : (j : ℕ) → j < k → j ≢ i → holds s t j b ≡ true → counter t (slot s k b) < counter t (slot s j b)
 
-  abbrev otherHolder : ℕ → Bool
-  otherHolder j = not (eqb j i) && holds s t j b
-
   abbrev counterOf : ℕ → ℕ
   counterOf j = counter t (slot s j b)
 
-  another-passes : (j : ℕ) → j ≢ i → holds s t j b ≡ true → otherHolder j ≡ true
-  another-passes j d e = rw (ne-eqb j i d) e
-
-  passing-another : (j : ℕ) → otherHolder j ≡ true → Another i (λ j. holds s t j b) j
-  passing-another j e =
+  other-holds-true : (j : ℕ) → otherHolds s t i b j ≡ true → Another i (λ j. holds s t j b) j
+  unfolding otherHolds
+  other-holds-true j e =
       let e′ = both-true _ _ e in
       record { differs = eqb-false _ _ (not-true _ (e′ .0)); passes = e′ .1 }
 
-  payer-found-or-none : Argmin otherHolder counterOf (s .processors) (s .processors) (payer s t i b)
+  true-other-holds : (j : ℕ) → j ≢ i → holds s t j b ≡ true → otherHolds s t i b j ≡ true
+  unfolding otherHolds
+  true-other-holds j d e = rw (ne-eqb j i d) e
+
+  payer-found-or-none : Argmin (otherHolds s t i b) counterOf (s .processors) (s .processors) (payer s t i b)
   unfolding payer
-  payer-found-or-none = argmin-is otherHolder counterOf (s .processors)
+  payer-found-or-none = argmin-is (otherHolds s t i b) counterOf (s .processors)
 
   pub payer-known : sharing s t i b ≡ true → Payer (payer s t i b)
   payer-known e = go (payer s t i b) payer-found-or-none
     where
-      go : (k : ℕ) → Argmin otherHolder counterOf (s .processors) (s .processors) k → Payer k
+      go : (k : ℕ) → Argmin (otherHolds s t i b) counterOf (s .processors) (s .processors) k → Payer k
       go k (none-passes _ f) =
           let a = sharing-found s t i b e in
-          absurd (true≢false (sym (another-passes (a .0) (a .2 .differs) (a .2 .passes)) ∙ f (a .0) (a .1)))
+          absurd (true≢false (sym (true-other-holds (a .0) (a .2 .differs) (a .2 .passes)) ∙ f (a .0) (a .1)))
       go k (one-passes a) =
           record {
             below = a .below;
-            another = passing-another k (a .passes);
-            smallest = λ j u d h. a .smallest j u (another-passes j d h);
-            lowest = λ j u d h. a .lowest j u (another-passes j d h);
+            another = other-holds-true k (a .passes);
+            smallest = λ j u d h. a .smallest j u (true-other-holds j d h);
+            lowest = λ j u d h. a .lowest j u (true-other-holds j d h);
           }
 
   -- and this says all: there is one only
   pub payer-only : (k : ℕ) → Payer k → k ≡ payer s t i b
   payer-only k a =
-      smallest-only otherHolder counterOf (s .processors) k (payer s t i b) (as-smallest k a)
+      smallest-only (otherHolds s t i b) counterOf (s .processors) k (payer s t i b) (as-smallest k a)
       (as-smallest (payer s t i b) (payer-known (sharing-some s t i b k (a .below) (a .another .differs) (a .another .passes))))
     where
-      as-smallest : (k : ℕ) → Payer k → Smallest otherHolder counterOf (s .processors) k
+      as-smallest : (k : ℕ) → Payer k → Smallest (otherHolds s t i b) counterOf (s .processors) k
       as-smallest k a =
           record {
             below = a .below;
-            passes = another-passes k (a .another .differs) (a .another .passes);
-            smallest = λ j u q. let c = passing-another j q in a .smallest j u (c .differs) (c .passes);
-            lowest = λ j u q. let c = passing-another j q in a .lowest j u (c .differs) (c .passes);
+            passes = true-other-holds k (a .another .differs) (a .another .passes);
+            smallest = λ j u q. let c = other-holds-true j q in a .smallest j u (c .differs) (c .passes);
+            lowest = λ j u q. let c = other-holds-true j q in a .lowest j u (c .differs) (c .passes);
           }
 
   pub payer-below : sharing s t i b ≡ true → payer s t i b < s .processors
@@ -125,10 +124,10 @@ module _ (s : Setup) (t : Tables) (i : ℕ) (b : Block) where
   pub payer-none : sharing s t i b ≡ false → s .processors ≤ payer s t i b
   payer-none e = go (payer s t i b) payer-found-or-none
     where
-      go : (k : ℕ) → Argmin otherHolder counterOf (s .processors) (s .processors) k → s .processors ≤ k
+      go : (k : ℕ) → Argmin (otherHolds s t i b) counterOf (s .processors) (s .processors) k → s .processors ≤ k
       go k (none-passes p _) = omega arith
       go k (one-passes a) =
-          let c = passing-another k (a .passes) in
+          let c = other-holds-true k (a .passes) in
           absurd (true≢false (sym (c .passes) ∙ sharing-none s t i b e k (a .below) (c .differs)))
 
 -- there is one exactly if another cache holds the block

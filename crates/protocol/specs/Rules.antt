@@ -1,13 +1,13 @@
 -- Rules 1 to 5 on the tables, and the cycles of each (document 01, "What one request does").
 use Prim.Native.Nat.{ℕ, zero, suc, _-_}
-use mathlib.Core.Bool.{_&&_, not, cond}
+use mathlib.Core.Bool.{_&&_, cond}
 use mathlib.Core.List.{List}
 use lib.ListN.{set}
 use lib.Seq.{sets}
 use lib.Dec.{ltb, eqb}
 use Rattle.protocol_types.specs.Lists.{zeros, first, argmin}
 use Rattle.protocol_types.specs.Board.{fetchPrice, writeBackPrice, slot, wordIndex, memoryIndex}
-use Rattle.protocol.specs.Tables.{Tables, tables, counter, block, lineWords, memoryWords, holds, sharing, marked}
+use Rattle.protocol.specs.Tables.{Tables, tables, counter, block, lineWords, memoryWords, holds, otherHolds, sharing, marked}
 use Rattle.protocol_types.specs.declared.Setup.{Setup}
 use Rattle.protocol_types.specs.declared.Block.{Block}
 
@@ -72,7 +72,7 @@ writeBackCycles s t i b = cond (holds s t i b) 0 (saveCycles s t (slot s i b))
 -- the payer: the other holder with the smallest counter, the lowest processor among equals (document 02, P5);
 -- the number of processors if no other cache holds b
 unfoldable pub payer : Setup → Tables → ℕ → Block → ℕ
-payer s t i b = argmin (s .processors) (λ j. not (eqb j i) && holds s t j b) (λ j. counter t (slot s j b))
+payer s t i b = argmin (s .processors) (otherHolds s t i b) (λ j. counter t (slot s j b))
 
 -- rule 4, no other holder: slot k's counter becomes f, its word changes and it is marked
 unfoldable pub writtenAlone : Setup → Tables → ℕ → ℕ → ℕ → Tables

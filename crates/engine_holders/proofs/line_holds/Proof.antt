@@ -1,7 +1,8 @@
--- An empty line holds nothing; another holds the block that it names.
+-- A line holds the block that it names, unless it is empty.
 use borrow.Author.Needs.{needs}
+use mathlib.Core.Bool.{and-false, and-true}
 use native.Mathlib.Omega.{arith}
-use borrow.Author.Tests.{lt-ltb}
+use borrow.Author.Tests.{eq-eqb, ne-eqb}
 use denote.Ref.{now}
 use Rattle.protocol_types.specs.Lists.{at}
 use Rattle.protocol.specs.Tables.{holdsAt}
@@ -10,13 +11,11 @@ use Rattle.engine_holders.proofs.line_holds.Tie as tie
 
 returns : tie.Need-returns
 unfolding holdsAt
-returns c m w g = rw (c .if1 .taken)
+returns c m w g = simp (ne-eqb _ _ (c .if1 .taken), and-false)
 
 returns-2 : tie.Need-returns-2
 unfolding holdsAt
-returns-2 c m w g =
-    let start = c .before .before .before .before in
-    rw (lt-ltb 0 (at (now (start .args .counters)) (start .args .k)) (omega arith))
+returns-2 c m w g = simp (eq-eqb _ _ (c .before .if1 .left), and-true)
 
 pub line-holds-spec : {M : Type 1} → statement M
 line-holds-spec =

@@ -1,5 +1,7 @@
--- A processor that is no other holder, or has no smaller counter, is passed over (the laws of the step).
+-- A processor that is no other holder, or has no smaller counter, is passed over (the laws of the step). Which counter is smaller is left to omega, so that a
+-- wrong comparison fails at numbers.
 use borrow.Author.Needs.{needs}
+use native.Mathlib.Omega.{arith}
 use denote.Ref.{now}
 use Rattle.protocol_types.proofs.Laws.{failed, passed}
 use Rattle.protocol.specs.Tables.{tables}
@@ -24,7 +26,7 @@ returns-2 c =
     let a = start .args in (
       λ m w g. weaker-kept (a .setup) (tables (now (a .blocks)) (now (a .counters)) m w g) (a .block) (a .processor) (a .weakest) (a .j)
           (start .pre .1 .0 .0) (passed (if1′ .before .other-holds .ensures m w g) (if1′ .if1 .left))
-          (rw (slot′ .slot .ensures .value, c .before .before .slot2 .ensures .value) at (c .if2 .taken)),
+          (omega (arith, rw (slot′ .slot .ensures .value, c .before .before .slot2 .ensures .value) at (c .if2 .taken))),
       start .pre .1 .0 .0,
     )
 
@@ -36,7 +38,7 @@ returns-3 c =
     let a = start .args in (
       λ m w g. weaker-taken (a .setup) (tables (now (a .blocks)) (now (a .counters)) m w g) (a .block) (a .processor) (a .weakest) (a .j)
           (start .pre .1 .0 .0) (passed (if1′ .before .other-holds .ensures m w g) (if1′ .if1 .left))
-          (rw (slot′ .slot .ensures .value, c .before .before .slot2 .ensures .value) at (c .if2 .left)),
+          (omega (arith, rw (slot′ .slot .ensures .value, c .before .before .slot2 .ensures .value) at (c .if2 .left))),
       start .pre .1 .0 .1,
     )
 

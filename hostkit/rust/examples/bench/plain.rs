@@ -49,6 +49,16 @@ impl Board<'_> {
         (0..self.n).find(|&j| j != i && self.holds(j * self.l + line, block))
     }
 
+    /// The slot of the other holder with the smallest counter, the lowest among equals.
+    #[inline]
+    fn payer(&self, i: usize, line: usize, block: u32) -> Option<usize> {
+        (0..self.n)
+            .filter(|&j| j != i)
+            .map(|j| j * self.l + line)
+            .filter(|&slot| self.holds(slot, block))
+            .min_by_key(|&slot| self.counters[slot])
+    }
+
     fn line_sound(&self, i: usize, line: usize) -> bool {
         let slot = i * self.l + line;
         let words = &self.words[slot * self.p..][..self.p];
@@ -116,18 +126,14 @@ impl Board<'_> {
         let slot = i * self.l + line;
         self.counters[slot] = self.fetch_price;
         self.words[slot * self.p + offset] = value;
-        let Some(first) = self.other_holder(i, line, block) else {
+        let Some(paying) = self.payer(i, line, block) else {
             self.marks[slot] = 1;
             return;
         };
-        let mut paying = first * self.l + line;
-        for j in first..self.n {
+        for j in 0..self.n {
             let other = j * self.l + line;
             if self.holds(other, block) {
                 self.words[other * self.p + offset] = value;
-                if j != i && self.counters[other] < self.counters[paying] {
-                    paying = other;
-                }
             }
         }
         self.memory[block as usize * self.p + offset] = value;
