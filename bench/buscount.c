@@ -8,7 +8,7 @@ enum { N = 4, L = 8, P = 4, M = 64, FETCH_PRICE = 4, WRITE_BACK_PRICE = 4, WIDTH
 static uint32_t block[N][L], counter[N][L], mark[N][L], words[N][L][P], memory[M][P];
 static uint32_t requests, fetch_cycles, write_back_cycles, update_cycles;
 
-static int holds(int i, uint32_t b) { return counter[i][b % L] != 0 && block[i][b % L] == b; }
+static int holds(int i, uint32_t b) { return block[i][b % L] == b && counter[i][b % L] != 0; }
 
 static void empty(int i, uint32_t l) {
     block[i][l] = counter[i][l] = mark[i][l] = 0;

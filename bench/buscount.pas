@@ -26,7 +26,7 @@ var
 
 function Holds(i, b: longword): boolean; inline;
 begin
-  Holds := (counters[i, b mod L] <> 0) and (blocks[i, b mod L] = b);
+  Holds := (blocks[i, b mod L] = b) and (counters[i, b mod L] <> 0);
 end;
 
 procedure Save(i, k: longword); inline;

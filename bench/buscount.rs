@@ -30,7 +30,7 @@ struct Board {
 impl Board {
     fn holds(&self, i: usize, b: usize) -> bool {
         let line = &self.caches[i][b % L];
-        line.counter != 0 && line.block as usize == b
+        line.block as usize == b && line.counter != 0
     }
 
     fn save(&mut self, i: usize, l: usize) {

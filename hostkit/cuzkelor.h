@@ -163,7 +163,7 @@ size_t cuzkelor_look_length(uint32_t processors, uint32_t lines, uint32_t block_
  *
  * A write to a block that other caches hold too lowers the smallest of their counters by 1, of equal ones the lowest
  * processor's, and at 0 that line becomes empty. In versions 1 to 3 it was the lowest other holder's, whatever the
- * counters.
+ * counters; tables and accounts that they left may be lent on.
  *
  * Checks 1, 10, 2, 20, 21, then for each request 3, 4, 22. 2 also meets a list that is no whole number of requests, and
  * values of another length than the list. 21: fetch cycles over fetch_price x requests, write-back cycles over
@@ -222,7 +222,8 @@ uint32_t cuzkelor_generate(uint32_t processors, uint32_t lines, uint32_t block_w
  * tables itself, and the account is written, not added to. A line is a label of one digit, blanks or tabs, an address
  * of 1 to 8 hexadecimal digits, and its end, or a blank, tab or carriage return and ignored text; it has at most 80
  * bytes without its newline, which the last line may lack. Labels 0 and 2 read, 1 writes the line's number, from 1. The
- * address's top byte is the processor, its low 24 bits divided by 4, rounded down, the variable.
+ * address's top byte is the processor, its low 24 bits divided by 4, rounded down, the variable. Who pays for a write is
+ * said at cuzkelor_run: the counts of a trace may differ from those of versions 1 to 3.
  *
  * Checks 2, then for each line 6, 7, 3, 4, 22, and stops at the first refused one.
  *

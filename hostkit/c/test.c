@@ -185,6 +185,23 @@ static void weakest_pays(void) {
     check(line_0(&h, 0, 4, 0) && line_0(&h, 1, 4, 0) && line_0(&h, 2, 1, 0), "2 pays");
 }
 
+/* Copies of block 0 in every cache, with counters that no run from fresh tables leaves: i writes. */
+static void pays(const uint32_t before[N], uint32_t i, const uint32_t after[N]) {
+    struct host h = fresh(SETUP);
+    for (uint32_t j = 0; j < N; j++) h.counters[j * L] = before[j];
+    writes(&h, i, 0, 5, UPDATE);
+    for (uint32_t j = 0; j < N; j++) check(line_0(&h, j, after[j], 0), "the payer on other tables");
+}
+
+static void payers(void) {
+    static const uint32_t equal[N] = {4, 2, 2, 3}, lowest[N] = {4, 1, 2, 4};
+    static const uint32_t falling[N] = {3, 4, 2, 1}, highest[N] = {3, 4, 2, 0};
+    static const uint32_t own[N] = {1, 3, 2, 3}, another[N] = {4, 3, 1, 3};
+    pays(equal, 3, lowest);
+    pays(falling, 1, highest);
+    pays(own, 0, another);
+}
+
 static void s10(void) {
     struct host h = fresh(ONE_WORD);
     struct cycles fetch = {1, 0, 0};
@@ -568,6 +585,7 @@ int main(void) {
                  {"S8", s8},
                  {"S9", s9},
                  {"beside S9", weakest_pays},
+                 {"payers", payers},
                  {"S10", s10},
                  {"S11", s11},
                  {"S12", s12},

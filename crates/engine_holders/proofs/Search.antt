@@ -1,5 +1,5 @@
--- Another holder and the owner as searches for the first processor that passes a test of specs/Searches, and the payer as a search for the smallest counter
--- that starts at the first other holder. Assumes nothing.
+-- Another holder and the owner as searches for the first processor that passes a test of specs/Searches, and the payer as a search for the smallest counter,
+-- from the first other holder on. Assumes nothing.
 use Prim.Native.Nat.{ℕ, _+_, _≤_, _<_}
 use mathlib.Core.Path.{_≡_, refl, sym, _∙_}
 use mathlib.Core.Bool.{true, false}
@@ -8,13 +8,12 @@ use native.Mathlib.Omega.{arith}
 use lib.Dec.{ltb}
 use borrow.Author.Tests.{lt-ltb, le-ltb, ne-eqb}
 use Rattle.protocol_types.specs.Lists.{first, other}
-use Rattle.protocol_types.specs.Board.{slot}
-use Rattle.protocol.specs.Tables.{Tables, counter, otherHolds, sharing}
+use Rattle.protocol.specs.Tables.{Tables, sharing, lineCounter}
 use Rattle.protocol.specs.Rules.{payer, owner}
 use Rattle.protocol_types.specs.declared.Setup.{Setup}
 use Rattle.protocol_types.specs.declared.Block.{Block}
-use Rattle.protocol_types.proofs.Laws.{first-holds, first-none, first-before, argmin-none, argmin-one}
-use Rattle.engine_holders.specs.Searches.{otherHolder, weakestBelow, weaker, owns}
+use Rattle.protocol_types.proofs.Laws.{first-holds, first-before, argmin-none, argmin-one}
+use Rattle.engine_holders.specs.Searches.{otherHolds, otherHolder, weakestBelow, weaker, owns}
 
 module _ (s : Setup) (t : Tables) (b : Block) where
   pub other-holder-is : (i : ℕ) → first (s .processors) (otherHolds s t i b) ≡ otherHolder s t i b
@@ -33,7 +32,7 @@ module _ (s : Setup) (t : Tables) (b : Block) where
     -- ---- the whole search for the payer, and its start: there is no other holder, or k is the first
 
     pub payer-search-ended : weakestBelow s t i b (s .processors) ≡ payer s t i b
-    unfolding weakestBelow payer
+    unfolding weakestBelow payer otherHolds
     payer-search-ended = refl
 
     module _ (k : ℕ) (found : k ≡ otherHolder s t i b) where
@@ -64,10 +63,10 @@ module _ (s : Setup) (t : Tables) (b : Block) where
       weaker-passed e = rw e
 
       module _ (held : k < s .processors) (e : otherHolds s t i b j ≡ true) where
-        pub weaker-kept : counter t (slot s k b) ≤ counter t (slot s j b) → k ≡ weaker s t i b k j
+        pub weaker-kept : lineCounter s t b k ≤ lineCounter s t b j → k ≡ weaker s t i b k j
         unfolding weaker
         weaker-kept h = rw (e, ne-eqb k (s .processors) (omega arith), le-ltb _ _ h)
 
-        pub weaker-taken : counter t (slot s j b) < counter t (slot s k b) → j ≡ weaker s t i b k j
+        pub weaker-taken : lineCounter s t b j < lineCounter s t b k → j ≡ weaker s t i b k j
         unfolding weaker
         weaker-taken h = rw (e, ne-eqb k (s .processors) (omega arith), lt-ltb _ _ h)

@@ -7,12 +7,12 @@ ghost use mathlib.Core.List.{List};
 ghost use Prim.Native.Nat.{ℕ, _<_};
 ghost use lib.ListN.{length};
 ghost use Rattle.protocol_types.specs.Board.{Fits};
-ghost use Rattle.protocol.specs.Tables.{holdsAt, holds, otherHolds, sharing};
+ghost use Rattle.protocol.specs.Tables.{holdsAt, holds, sharing};
 ghost use Rattle.protocol.specs.Lent.{before, unlent, PerSlot, PerSlotWord};
 ghost use Rattle.protocol.specs.Rules.{payer, owner, updatedCopies};
-ghost use Rattle.engine_holders.specs.Searches.{otherHolder, weaker, owns, updatedCopy};
+ghost use Rattle.engine_holders.specs.Searches.{otherHolds, otherHolder, weaker, owns, updatedCopy};
 
-// Whether slot k holds a block. The block number is tested first: in a cache in use few lines are empty, and it decides.
+// Whether slot k holds a block. The block number is tested first, since more lines hold another block than are empty.
 fn line_holds(k: usize, block: Block, blocks: &[u32], counters: &[u32]) -> bool
     requires { ⌜ (k < length (now blocks)) × (k < length (now counters)) ⌝ }
     ensures { λ r. ⌜ ((m w g : List ℕ) → r ≡ holdsAt (before blocks counters (unlent m) (unlent w) (unlent g)) k block) ⌝ }
@@ -54,8 +54,8 @@ fn other_holds(
 }
 
 // The lowest-numbered other holder; the number of processors where there is none.
-// The search for the payer starts with it, and it counts processors in a byte (document 02, P3). A byte is enough, because the count ends at N and N is at most 8
-// (`few-processors` of `Fits`): `add-other` in proofs/other_holder proves that the next number always fits.
+// The search for the payer starts with it, and it counts processors in a byte (document 02, P3). A byte is enough, because the count ends at N and N is at
+// most 8 (`few-processors` of `Fits`): `add-other` in proofs/other_holder proves that the next number always fits.
 fn other_holder(setup: Setup, processor: u32, block: Block, blocks: &[u32], counters: &[u32]) -> u32
     requires { ⌜ Fits setup ⌝ }
     requires { ⌜ PerSlot setup blocks × PerSlot setup counters ⌝ }

@@ -2,17 +2,17 @@
 use Prim.Native.Nat.{ℕ, _/_, _%_, _≤_, _<_}
 use mathlib.Core.Path.{_≡_, sym, _∙_}
 use mathlib.Core.Logic.{_≢_}
-use mathlib.Core.Bool.{true, false, _&&_, true≢false}
+use mathlib.Core.Bool.{Bool, true, false, _&&_, true≢false}
 use native.Mathlib.Omega.{arith}
 use lib.Dec.{ltb}
-use borrow.Author.Tests.{not-true, ltb-true, ltb-false, eqb-true, eqb-false, lt-ltb, le-ltb, eq-eqb, ne-eqb}
-use Rattle.protocol_types.specs.Lists.{other}
+use borrow.Author.Tests.{ltb-true, ltb-false, eqb-true, lt-ltb, le-ltb, eq-eqb}
+use Rattle.protocol_types.specs.Lists.{another, other}
 use Rattle.protocol_types.specs.Board.{Fits, slot, lineOf}
-use Rattle.protocol.specs.Tables.{Tables, counter, block, mark, holdsAt, holds, otherHolds, sharing, marked}
+use Rattle.protocol.specs.Tables.{Tables, counter, block, mark, holdsAt, holds, sharing, lineCounter, marked}
 use Rattle.protocol.specs.Rules.{owner, payer}
 use Rattle.protocol_types.specs.declared.Setup.{Setup}
 use Rattle.protocol_types.specs.declared.Block.{Block}
-use Rattle.protocol_types.proofs.Laws.{Known, sure, not-so, known, both-true, and-true, first-holds, first-none, other-found, other-none, other-some, Another, Smallest, smallest-only, Argmin, none-passes, one-passes, argmin-is}
+use Rattle.protocol_types.proofs.Laws.{Known, sure, not-so, known, both-true, and-true, first-holds, first-none, Another, another-true, true-another, other-found, other-none, other-some, Smallest, smallest-only, Argmin, none-pass, some-pass, argmin-is}
 use Rattle.protocol_types.proofs.Board.{block-path, block-number, slot-of}
 
 -- ---- a slot
@@ -61,73 +61,46 @@ sharing-none s t i b e = other-none (s .processors) i (λ j. holds s t j b) (ltb
 -- ---- the payer: another holder, of the smallest counter and the lowest of equals; or there is none
 
 module _ (s : Setup) (t : Tables) (i : ℕ) (b : Block) where
-  -- what document 02, P5, says of a payer k
-  pub record Payer (k : ℕ) : Type 0 where
-    pub below : k < s .processors
-    pub another : Another i (λ j. holds s t j b) k
-    pub smallest : (j : ℕ) → j < s .processors → j ≢ i → holds s t j b ≡ true → counter t (slot s k b) ≤ counter t (slot s j b)
-    pub lowest : (j : ℕ) → j < k → j ≢ i → holds s t j b ≡ true → counter t (slot s k b) < counter t (slot s j b)
+  abbrev H : ℕ → Bool
+  H j = holds s t j b
 
-  abbrev counterOf : ℕ → ℕ
-  counterOf j = counter t (slot s j b)
+  -- what document 02, P5, says of a payer
+  abbrev pub Payer : ℕ → Type 0
+  Payer k = Smallest (another i H) (lineCounter s t b) (s .processors) k
 
-  other-holds-true : (j : ℕ) → otherHolds s t i b j ≡ true → Another i (λ j. holds s t j b) j
-  unfolding otherHolds
-  other-holds-true j e =
-      let e′ = both-true _ _ e in
-      record { differs = eqb-false _ _ (not-true _ (e′ .0)); passes = e′ .1 }
-
-  true-other-holds : (j : ℕ) → j ≢ i → holds s t j b ≡ true → otherHolds s t i b j ≡ true
-  unfolding otherHolds
-  true-other-holds j d e = rw (ne-eqb j i d) e
-
-  payer-found-or-none : Argmin (otherHolds s t i b) counterOf (s .processors) (s .processors) (payer s t i b)
+  payer-or-none : Argmin (another i H) (lineCounter s t b) (s .processors) (s .processors) (payer s t i b)
   unfolding payer
-  payer-found-or-none = argmin-is (otherHolds s t i b) counterOf (s .processors)
+  payer-or-none = argmin-is (another i H) (lineCounter s t b) (s .processors)
 
-  pub payer-known : sharing s t i b ≡ true → Payer (payer s t i b)
-  payer-known e = go (payer s t i b) payer-found-or-none
+  pub payer-smallest : sharing s t i b ≡ true → Payer (payer s t i b)
+  payer-smallest e = go (payer s t i b) payer-or-none
     where
-      go : (k : ℕ) → Argmin (otherHolds s t i b) counterOf (s .processors) (s .processors) k → Payer k
-      go k (none-passes _ f) =
+      go : (k : ℕ) → Argmin (another i H) (lineCounter s t b) (s .processors) (s .processors) k → Payer k
+      go k (none-pass _ f) =
           let a = sharing-found s t i b e in
-          absurd (true≢false (sym (true-other-holds (a .0) (a .2 .differs) (a .2 .passes)) ∙ f (a .0) (a .1)))
-      go k (one-passes a) =
-          record {
-            below = a .below;
-            another = other-holds-true k (a .passes);
-            smallest = λ j u d h. a .smallest j u (true-other-holds j d h);
-            lowest = λ j u d h. a .lowest j u (true-other-holds j d h);
-          }
+          absurd (true≢false (sym (true-another i H (a .0) (a .2)) ∙ f (a .0) (a .1)))
+      go k (some-pass a) = a
 
-  -- and this says all: there is one only
+  -- and this says all: there is only one
   pub payer-only : (k : ℕ) → Payer k → k ≡ payer s t i b
   payer-only k a =
-      smallest-only (otherHolds s t i b) counterOf (s .processors) k (payer s t i b) (as-smallest k a)
-      (as-smallest (payer s t i b) (payer-known (sharing-some s t i b k (a .below) (a .another .differs) (a .another .passes))))
-    where
-      as-smallest : (k : ℕ) → Payer k → Smallest (otherHolds s t i b) counterOf (s .processors) k
-      as-smallest k a =
-          record {
-            below = a .below;
-            passes = true-other-holds k (a .another .differs) (a .another .passes);
-            smallest = λ j u q. let c = other-holds-true j q in a .smallest j u (c .differs) (c .passes);
-            lowest = λ j u q. let c = other-holds-true j q in a .lowest j u (c .differs) (c .passes);
-          }
+      let c = another-true i H k (a .passes) in
+      smallest-only (another i H) (lineCounter s t b) (s .processors) k (payer s t i b) a
+      (payer-smallest (sharing-some s t i b k (a .below) (c .differs) (c .passes)))
 
   pub payer-below : sharing s t i b ≡ true → payer s t i b < s .processors
-  payer-below e = payer-known e .below
+  payer-below e = payer-smallest e .below
 
   pub payer-found : sharing s t i b ≡ true → Another i (λ j. holds s t j b) (payer s t i b)
-  payer-found e = payer-known e .another
+  payer-found e = another-true i H (payer s t i b) (payer-smallest e .passes)
 
   pub payer-none : sharing s t i b ≡ false → s .processors ≤ payer s t i b
-  payer-none e = go (payer s t i b) payer-found-or-none
+  payer-none e = go (payer s t i b) payer-or-none
     where
-      go : (k : ℕ) → Argmin (otherHolds s t i b) counterOf (s .processors) (s .processors) k → s .processors ≤ k
-      go k (none-passes p _) = omega arith
-      go k (one-passes a) =
-          let c = other-holds-true k (a .passes) in
+      go : (k : ℕ) → Argmin (another i H) (lineCounter s t b) (s .processors) (s .processors) k → s .processors ≤ k
+      go k (none-pass p _) = omega arith
+      go k (some-pass a) =
+          let c = another-true i H k (a .passes) in
           absurd (true≢false (sym (c .passes) ∙ sharing-none s t i b e k (a .below) (c .differs)))
 
 -- there is one exactly if another cache holds the block

@@ -5,9 +5,9 @@ use mathlib.Core.List.{List}
 use lib.ListN.{set}
 use lib.Seq.{sets}
 use lib.Dec.{ltb, eqb}
-use Rattle.protocol_types.specs.Lists.{zeros, first, argmin}
+use Rattle.protocol_types.specs.Lists.{zeros, first, another, argmin}
 use Rattle.protocol_types.specs.Board.{fetchPrice, writeBackPrice, slot, wordIndex, memoryIndex}
-use Rattle.protocol.specs.Tables.{Tables, tables, counter, block, lineWords, memoryWords, holds, otherHolds, sharing, marked}
+use Rattle.protocol.specs.Tables.{Tables, tables, counter, block, lineWords, memoryWords, holds, sharing, lineCounter, marked}
 use Rattle.protocol_types.specs.declared.Setup.{Setup}
 use Rattle.protocol_types.specs.declared.Block.{Block}
 
@@ -72,7 +72,7 @@ writeBackCycles s t i b = cond (holds s t i b) 0 (saveCycles s t (slot s i b))
 -- the payer: the other holder with the smallest counter, the lowest processor among equals (document 02, P5);
 -- the number of processors if no other cache holds b
 unfoldable pub payer : Setup → Tables → ℕ → Block → ℕ
-payer s t i b = argmin (s .processors) (otherHolds s t i b) (λ j. counter t (slot s j b))
+payer s t i b = argmin (s .processors) (another i (λ j. holds s t j b)) (lineCounter s t b)
 
 -- rule 4, no other holder: slot k's counter becomes f, its word changes and it is marked
 unfoldable pub writtenAlone : Setup → Tables → ℕ → ℕ → ℕ → Tables

@@ -1,6 +1,6 @@
 -- The twelve sessions of document 01 and the cases beside them, then those of document 02, as one table. proofs/Sessions proves that every row passes.
 -- A session compares the answer, the values, the account and every entry of every table with what the row says.
-use Prim.Native.Nat.{ℕ, _*_}
+use Prim.Native.Nat.{ℕ, suc, _+_, _*_}
 use mathlib.Core.Bool.{Bool, true, false, _&&_, not, cond}
 use mathlib.Core.List.{List, [], _∷_}
 use lib.ListN.{length, replicate, set}
@@ -164,7 +164,7 @@ pub record Session : Type 0 where
   pub setup : Setup
   -- the account at first
   pub account : Account
-  -- taken first, from fresh tables (or lent ones): the run meets the tables and the account that they leave
+  -- taken first, from fresh tables unless said: the run meets the tables and the account that they leave
   pub before : List Request
   pub requests : List Request
   -- what it leaves in a list of as many nines
@@ -216,8 +216,8 @@ pub record Split : Type 0 where
 
 pub data Row : Type 0 where
   session : Session → Row
-  -- a session that starts from tables as they are lent, with these lines and cells, and not from fresh ones
-  lentSession : List Copy → List Cell → Session → Row
+  -- a session from other tables than fresh ones: with these lines and cells
+  sessionFrom : List Copy → List Cell → Session → Row
   -- tables that an empty run meets, and its refusal
   tabled : Setup → Tables → ℕ → Row
   lent : Lent → Row
@@ -239,6 +239,27 @@ abbrev pub refusedAt : Setup → List Request → List Entry → ℕ → ℕ →
 refusedAt s qs es n k =
     let zeros : List ℕ = replicate (s .processors * s .lines) 0 in
     quote (record { setup = s; requests = qs; entries = es; number = n; place = k; cost = 0; blocks = zeros; held = zeros; marks = zeros })
+
+-- copies of block 9 on the usual board, from processor i on, with these counters (0: no copy) and words
+abbrev pub copiesOf9 : ℕ → List ℕ → List ℕ → List Copy
+copiesOf9 i [] ws = []
+copiesOf9 i (c ∷ cs) ws = cond (eqb c 0) (copiesOf9 (suc i) cs ws) (copy (i * 8 + 1) 9 c 0 ws ∷ copiesOf9 (suc i) cs ws)
+
+-- copies of block 9 with these counters, a write to it by processor i, and the counters then
+abbrev pub payment : List ℕ → ℕ → List ℕ → Row
+payment cs i ds = sessionFrom (copiesOf9 0 cs (0 ∷ 5 ∷ 0 ∷ 0 ∷ [])) (cell 37 5 ∷ []) (record {
+  setup = usual;
+  account = account 0 0 0 0;
+  before = [];
+  requests = write i 38 6 ∷ [];
+  values = 6 ∷ [];
+  answer = answered 1 0 0;
+  cost = cost 0 0 1;
+  left = account 1 0 0 1;
+  changes = true;
+  lines = copiesOf9 0 ds (0 ∷ 5 ∷ 6 ∷ 0 ∷ []);
+  memory = cell 37 5 ∷ cell 38 6 ∷ [];
+})
 
 -- a setup that n refuses, to a run and to starting, and that a look shows nothing of: with tables of N 2, L 2, p 2 and M 5 that hold block 3
 abbrev pub setupRefused : Setup → ℕ → Row
@@ -318,7 +339,7 @@ takenPasses s seed n =
 
 abbrev pub passes : Row → Bool
 passes (session w) = sessionPasses (fresh (w .setup)) w
-passes (lentSession cs ms w) = sessionPasses (holding (w .setup) cs ms) w
+passes (sessionFrom cs ms w) = sessionPasses (holding (w .setup) cs ms) w
 passes (tabled s t n) = tabledPasses s t n
 passes (lent w) = lentPasses w
 passes (quote w) = quotePasses w
@@ -2338,64 +2359,20 @@ rows =
       lines = copy 1 9 4 0 (3 ∷ 5 ∷ 6 ∷ 0 ∷ []) ∷ copy 9 9 4 0 (3 ∷ 5 ∷ 6 ∷ 0 ∷ []) ∷ copy 17 9 4 0 (3 ∷ 5 ∷ 6 ∷ 0 ∷ []) ∷ copy 25 9 1 0 (3 ∷ 5 ∷ 6 ∷ 0 ∷ []) ∷ [];
       memory = cell 36 3 ∷ cell 37 5 ∷ cell 38 6 ∷ [];
     })
-    -- on lent tables, three others with 4, 2 and 2: of the equal ones the lowest pays
-    ∷ lentSession (copy 1 9 4 0 (0 ∷ 5 ∷ 0 ∷ 0 ∷ []) ∷ copy 9 9 2 0 (0 ∷ 5 ∷ 0 ∷ 0 ∷ []) ∷ copy 17 9 2 0 (0 ∷ 5 ∷ 0 ∷ 0 ∷ []) ∷ copy 25 9 3 0 (0 ∷ 5 ∷ 0 ∷ 0 ∷ []) ∷ []) (cell 37 5 ∷ []) (record {
-      setup = usual;
-      account = account 0 0 0 0;
-      before = [];
-      requests = write 3 38 6 ∷ [];
-      values = 6 ∷ [];
-      answer = answered 1 0 0;
-      cost = cost 0 0 1;
-      left = account 1 0 0 1;
-      changes = true;
-      lines = copy 1 9 4 0 (0 ∷ 5 ∷ 6 ∷ 0 ∷ []) ∷ copy 9 9 1 0 (0 ∷ 5 ∷ 6 ∷ 0 ∷ []) ∷ copy 17 9 2 0 (0 ∷ 5 ∷ 6 ∷ 0 ∷ []) ∷ copy 25 9 4 0 (0 ∷ 5 ∷ 6 ∷ 0 ∷ []) ∷ [];
-      memory = cell 37 5 ∷ cell 38 6 ∷ [];
-    })
+    -- other tables than fresh ones, three others with 4, 2 and 2: of equal ones the lowest pays
+    ∷ payment (4 ∷ 2 ∷ 2 ∷ 3 ∷ []) 3 (4 ∷ 1 ∷ 2 ∷ 4 ∷ [])
+    -- with 3, 3 and 3, and 1 the writer's own
+    ∷ payment (3 ∷ 3 ∷ 1 ∷ 3 ∷ []) 2 (2 ∷ 3 ∷ 4 ∷ 3 ∷ [])
+    -- two others with 2 and 2, above the writer
+    ∷ payment (4 ∷ 0 ∷ 2 ∷ 2 ∷ []) 0 (4 ∷ 0 ∷ 1 ∷ 2 ∷ [])
     -- three others with 3, 2 and 4: neither the lowest nor the highest processor pays
-    ∷ lentSession (copy 1 9 3 0 (0 ∷ 5 ∷ 0 ∷ 0 ∷ []) ∷ copy 9 9 2 0 (0 ∷ 5 ∷ 0 ∷ 0 ∷ []) ∷ copy 17 9 4 0 (0 ∷ 5 ∷ 0 ∷ 0 ∷ []) ∷ copy 25 9 4 0 (0 ∷ 5 ∷ 0 ∷ 0 ∷ []) ∷ []) (cell 37 5 ∷ []) (record {
-      setup = usual;
-      account = account 0 0 0 0;
-      before = [];
-      requests = write 3 38 6 ∷ [];
-      values = 6 ∷ [];
-      answer = answered 1 0 0;
-      cost = cost 0 0 1;
-      left = account 1 0 0 1;
-      changes = true;
-      lines = copy 1 9 3 0 (0 ∷ 5 ∷ 6 ∷ 0 ∷ []) ∷ copy 9 9 1 0 (0 ∷ 5 ∷ 6 ∷ 0 ∷ []) ∷ copy 17 9 4 0 (0 ∷ 5 ∷ 6 ∷ 0 ∷ []) ∷ copy 25 9 4 0 (0 ∷ 5 ∷ 6 ∷ 0 ∷ []) ∷ [];
-      memory = cell 37 5 ∷ cell 38 6 ∷ [];
-    })
+    ∷ payment (3 ∷ 2 ∷ 4 ∷ 4 ∷ []) 3 (3 ∷ 1 ∷ 4 ∷ 4 ∷ [])
     -- three others with 3, 2 and 1: the highest pays, and its line becomes empty
-    ∷ lentSession (copy 1 9 3 0 (0 ∷ 5 ∷ 0 ∷ 0 ∷ []) ∷ copy 9 9 4 0 (0 ∷ 5 ∷ 0 ∷ 0 ∷ []) ∷ copy 17 9 2 0 (0 ∷ 5 ∷ 0 ∷ 0 ∷ []) ∷ copy 25 9 1 0 (0 ∷ 5 ∷ 0 ∷ 0 ∷ []) ∷ []) (cell 37 5 ∷ []) (record {
-      setup = usual;
-      account = account 0 0 0 0;
-      before = [];
-      requests = write 1 38 6 ∷ [];
-      values = 6 ∷ [];
-      answer = answered 1 0 0;
-      cost = cost 0 0 1;
-      left = account 1 0 0 1;
-      changes = true;
-      lines = copy 1 9 3 0 (0 ∷ 5 ∷ 6 ∷ 0 ∷ []) ∷ copy 9 9 4 0 (0 ∷ 5 ∷ 6 ∷ 0 ∷ []) ∷ copy 17 9 2 0 (0 ∷ 5 ∷ 6 ∷ 0 ∷ []) ∷ [];
-      memory = cell 37 5 ∷ cell 38 6 ∷ [];
-    })
+    ∷ payment (3 ∷ 4 ∷ 2 ∷ 1 ∷ []) 1 (3 ∷ 4 ∷ 2 ∷ 0 ∷ [])
     -- the writer's own counter, 1, is the smallest of all: of the others, with 3 and 2, the weakest pays
-    ∷ lentSession (copy 1 9 1 0 (0 ∷ 5 ∷ 0 ∷ 0 ∷ []) ∷ copy 9 9 3 0 (0 ∷ 5 ∷ 0 ∷ 0 ∷ []) ∷ copy 17 9 2 0 (0 ∷ 5 ∷ 0 ∷ 0 ∷ []) ∷ []) (cell 37 5 ∷ []) (record {
-      setup = usual;
-      account = account 0 0 0 0;
-      before = [];
-      requests = write 0 38 6 ∷ [];
-      values = 6 ∷ [];
-      answer = answered 1 0 0;
-      cost = cost 0 0 1;
-      left = account 1 0 0 1;
-      changes = true;
-      lines = copy 1 9 4 0 (0 ∷ 5 ∷ 6 ∷ 0 ∷ []) ∷ copy 9 9 3 0 (0 ∷ 5 ∷ 6 ∷ 0 ∷ []) ∷ copy 17 9 1 0 (0 ∷ 5 ∷ 6 ∷ 0 ∷ []) ∷ [];
-      memory = cell 37 5 ∷ cell 38 6 ∷ [];
-    })
+    ∷ payment (1 ∷ 3 ∷ 2 ∷ []) 0 (4 ∷ 3 ∷ 1 ∷ [])
     -- a counter of 1 in the same line is block 1's, not block 9's, of which others have 3 and 2
-    ∷ lentSession (copy 1 1 1 0 (0 ∷ 0 ∷ 7 ∷ 0 ∷ []) ∷ copy 9 9 3 0 (0 ∷ 5 ∷ 0 ∷ 0 ∷ []) ∷ copy 17 9 4 0 (0 ∷ 5 ∷ 0 ∷ 0 ∷ []) ∷ copy 25 9 2 0 (0 ∷ 5 ∷ 0 ∷ 0 ∷ []) ∷ []) (cell 6 7 ∷ cell 37 5 ∷ []) (record {
+    ∷ sessionFrom (copy 1 1 1 0 (0 ∷ 0 ∷ 7 ∷ 0 ∷ []) ∷ copy 9 9 3 0 (0 ∷ 5 ∷ 0 ∷ 0 ∷ []) ∷ copy 17 9 4 0 (0 ∷ 5 ∷ 0 ∷ 0 ∷ []) ∷ copy 25 9 2 0 (0 ∷ 5 ∷ 0 ∷ 0 ∷ []) ∷ []) (cell 6 7 ∷ cell 37 5 ∷ []) (record {
       setup = usual;
       account = account 0 0 0 0;
       before = [];
@@ -2409,7 +2386,7 @@ rows =
       memory = cell 6 7 ∷ cell 37 5 ∷ cell 38 6 ∷ [];
     })
     -- eight holders: the writer has 1, and of the others the highest processor has the smallest counter
-    ∷ lentSession (copy 0 1 8 0 (3 ∷ []) ∷ copy 1 1 7 0 (3 ∷ []) ∷ copy 2 1 6 0 (3 ∷ []) ∷ copy 3 1 5 0 (3 ∷ []) ∷ copy 4 1 4 0 (3 ∷ []) ∷ copy 5 1 3 0 (3 ∷ []) ∷ copy 6 1 1 0 (3 ∷ []) ∷ copy 7 1 2 0 (3 ∷ []) ∷ []) (cell 1 3 ∷ []) (record {
+    ∷ sessionFrom (copy 0 1 8 0 (3 ∷ []) ∷ copy 1 1 7 0 (3 ∷ []) ∷ copy 2 1 6 0 (3 ∷ []) ∷ copy 3 1 5 0 (3 ∷ []) ∷ copy 4 1 4 0 (3 ∷ []) ∷ copy 5 1 3 0 (3 ∷ []) ∷ copy 6 1 1 0 (3 ∷ []) ∷ copy 7 1 2 0 (3 ∷ []) ∷ []) (cell 1 3 ∷ []) (record {
       setup = pricedBoard 8 1 1 2 8 1;
       account = account 0 0 0 0;
       before = [];
@@ -2423,7 +2400,7 @@ rows =
       memory = cell 1 4 ∷ [];
     })
     -- each write charges whoever is then the weakest: two writes by 3, then one by 1
-    ∷ lentSession (copy 1 9 4 0 (0 ∷ 5 ∷ 0 ∷ 0 ∷ []) ∷ copy 9 9 3 0 (0 ∷ 5 ∷ 0 ∷ 0 ∷ []) ∷ copy 17 9 2 0 (0 ∷ 5 ∷ 0 ∷ 0 ∷ []) ∷ copy 25 9 4 0 (0 ∷ 5 ∷ 0 ∷ 0 ∷ []) ∷ []) (cell 37 5 ∷ []) (record {
+    ∷ sessionFrom (copy 1 9 4 0 (0 ∷ 5 ∷ 0 ∷ 0 ∷ []) ∷ copy 9 9 3 0 (0 ∷ 5 ∷ 0 ∷ 0 ∷ []) ∷ copy 17 9 2 0 (0 ∷ 5 ∷ 0 ∷ 0 ∷ []) ∷ copy 25 9 4 0 (0 ∷ 5 ∷ 0 ∷ 0 ∷ []) ∷ []) (cell 37 5 ∷ []) (record {
       setup = usual;
       account = account 0 0 0 0;
       before = [];

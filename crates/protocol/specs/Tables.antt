@@ -1,7 +1,7 @@
 -- The lent tables (document 01, "The board").
 use Prim.Native.Nat.{ℕ, _*_}
 use mathlib.Core.Path.{_≡_}
-use mathlib.Core.Bool.{Bool, _&&_, not}
+use mathlib.Core.Bool.{Bool, _&&_}
 use mathlib.Core.List.{List, []}
 use lib.ListN.{length}
 use lib.Dec.{ltb, eqb}
@@ -76,13 +76,13 @@ holdsAt t k b = ltb 0 (counter t k) && eqb (block t k .0) (b .0)
 unfoldable pub holds : Setup → Tables → ℕ → Block → Bool
 holds s t i b = holdsAt t (slot s i b) b
 
--- processor j is another one than i and holds it
-unfoldable pub otherHolds : Setup → Tables → ℕ → Block → ℕ → Bool
-otherHolds s t i b j = not (eqb j i) && holds s t j b
-
 -- a processor other than i holds it
 unfoldable pub sharing : Setup → Tables → ℕ → Block → Bool
 sharing s t i b = ltb (other (s .processors) i (λ j. holds s t j b)) (s .processors)
+
+-- the counter of processor i's line for block b
+abbrev pub lineCounter : Setup → Tables → Block → ℕ → ℕ
+lineCounter s t b i = counter t (slot s i b)
 
 -- slot k is marked
 unfoldable pub marked : Tables → ℕ → Bool

@@ -2,14 +2,14 @@
 use Prim.Native.Nat.{ℕ, zero, suc, _+_, _≤_, _<_}
 use mathlib.Core.Path.{_≡_, refl, sym, _∙_}
 use mathlib.Core.Logic.{_≢_}
-use mathlib.Core.Bool.{Bool, true, false, _&&_, _||_, not, cond, true≢false}
+use mathlib.Core.Bool.{Bool, true, false, _&&_, not, cond, true≢false}
 use mathlib.Core.List.{List, [], _∷_}
 use native.Mathlib.Omega.{arith}
 use lib.ListN.{length, set}
 use lib.Seq.{getD-set-same, getD-set-other}
 use lib.Dec.{ltb, eqb}
 use borrow.Author.Tests.{not-true, not-false, ltb-true, ltb-false, eqb-true, eqb-false, eq-eqb, ne-eqb}
-use Rattle.protocol_types.specs.Lists.{at, zeros, firstFrom, first, other, smaller, argminBelow, argmin, all}
+use Rattle.protocol_types.specs.Lists.{at, zeros, firstFrom, first, another, other, smaller, argminBelow, argmin, all}
 
 -- ---- a test and what it says
 
@@ -128,15 +128,19 @@ pub record Another (i : ℕ) (P : ℕ → Bool) (j : ℕ) : Type 0 where
   pub differs : j ≢ i
   pub passes : P j ≡ true
 
+pub another-true : (i : ℕ) (P : ℕ → Bool) (j : ℕ) → another i P j ≡ true → Another i P j
+another-true i P j e = let e′ = both-true _ _ e in record { differs = eqb-false _ _ (not-true _ (e′ .0)); passes = e′ .1 }
+
+pub true-another : (i : ℕ) (P : ℕ → Bool) (j : ℕ) → Another i P j → another i P j ≡ true
+true-another i P j a = rw (ne-eqb j i (a .differs)) (a .passes)
+
 pub other-found : (n i : ℕ) (P : ℕ → Bool) → other n i P < n → Another i P (other n i P)
 unfolding other
-other-found n i P h =
-    let e : (not (eqb (other n i P) i) ≡ true) × (P (other n i P) ≡ true) = both-true _ _ (first-holds n (λ j. not (eqb j i) && P j) h) in
-    record { differs = eqb-false _ _ (not-true _ (e .0)); passes = e .1 }
+other-found n i P h = another-true i P (other n i P) (first-holds n (another i P) h)
 
 pub other-none : (n i : ℕ) (P : ℕ → Bool) → n ≤ other n i P → (m : ℕ) → m < n → m ≢ i → P m ≡ false
 unfolding other
-other-none n i P h m l d = rw (ne-eqb m i d) at (first-none n (λ j. not (eqb j i) && P j) h m l)
+other-none n i P h m l d = rw (ne-eqb m i d) at (first-none n (another i P) h m l)
 
 -- one that passes is found
 pub other-some : (n i : ℕ) (P : ℕ → Bool) (m : ℕ) → m < n → m ≢ i → P m ≡ true → ltb (other n i P) n ≡ true
@@ -165,17 +169,17 @@ module _ (P : ℕ → Bool) (w : ℕ → ℕ) where
       go (over h _) (under l _) = absurd (omega (arith, b .smallest k (a .below) (a .passes), a .lowest j l (b .passes)))
       go (over h _) (over l _) = omega arith
 
-  -- one number more: k stays where that number is no smaller; that number is next where it is smaller than all before
-  stays : (m k : ℕ) → Smallest m k → (P m ≡ true → w k ≤ w m) → Smallest (suc m) k
-  stays m k a h =
+  -- with number m besides: k stays where m is no smaller, and m is next where it is smaller than all before
+  smallest-stays : (m k : ℕ) → Smallest m k → (P m ≡ true → w k ≤ w m) → Smallest (suc m) k
+  smallest-stays m k a h =
       record { below = omega (arith, a .below); passes = a .passes; smallest = λ j u q. go j u q (same? j m); lowest = a .lowest }
     where
       go : (j : ℕ) → j < suc m → P j ≡ true → Same j m → w k ≤ w j
       go j u q (same e _) = rw e (h (rw e at q))
       go j u q (apart d _) = a .smallest j (omega arith) q
 
-  next : (m : ℕ) → P m ≡ true → ((j : ℕ) → j < m → P j ≡ true → w m < w j) → Smallest (suc m) m
-  next m p h = record { below = omega arith; passes = p; smallest = λ j u q. go j u q (same? j m); lowest = h }
+  smallest-next : (m : ℕ) → P m ≡ true → ((j : ℕ) → j < m → P j ≡ true → w m < w j) → Smallest (suc m) m
+  smallest-next m p h = record { below = omega arith; passes = p; smallest = λ j u q. go j u q (same? j m); lowest = h }
     where
       go : (j : ℕ) → j < suc m → P j ≡ true → Same j m → w m ≤ w j
       go j u q (same e _) = rw e (omega arith)
@@ -184,11 +188,11 @@ module _ (P : ℕ → Bool) (w : ℕ → ℕ) where
   module _ (none : ℕ) where
     -- what the search below m gives
     pub data Argmin (m k : ℕ) : Type 0 where
-      none-passes : k ≡ none → ((j : ℕ) → j < m → P j ≡ false) → Argmin m k
-      one-passes : Smallest m k → Argmin m k
+      none-pass : k ≡ none → ((j : ℕ) → j < m → P j ≡ false) → Argmin m k
+      some-pass : Smallest m k → Argmin m k
 
     pub argmin-below : (m : ℕ) → m ≤ none → Argmin m (argminBelow none P w m)
-    argmin-below zero l = none-passes refl (λ j u. absurd (omega arith))
+    argmin-below zero l = none-pass refl (λ j u. absurd (omega arith))
     argmin-below (suc m) l = go (argminBelow none P w m) (known (P m)) (argmin-below m (omega arith))
       where
         none-yet : P m ≡ false → ((j : ℕ) → j < m → P j ≡ false) → (j : ℕ) → j < suc m → Same j m → P j ≡ false
@@ -196,14 +200,14 @@ module _ (P : ℕ → Bool) (w : ℕ → ℕ) where
         none-yet p f j u (apart d _) = f j (omega arith)
 
         go : (k : ℕ) → Known (P m) → Argmin m k → Argmin (suc m) (smaller none P w k m)
-        go k (sure p) (none-passes e f) = rw (p, eq-eqb k none e) (one-passes (next m p (λ j u q. absurd (true≢false (sym q ∙ f j u)))))
-        go k (sure p) (one-passes a) =
+        go k (sure p) (none-pass e f) = rw (p, eq-eqb k none e) (some-pass (smallest-next m p (λ j u q. absurd (true≢false (sym q ∙ f j u)))))
+        go k (sure p) (some-pass a) =
             rw (p, ne-eqb k none (omega (arith, a .below)))
             (choice (Argmin (suc m)) (ltb (w m) (w k))
-            (λ e. one-passes (next m p (λ j u q. omega (arith, ltb-true (w m) (w k) e, a .smallest j u q))))
-            (λ e. one-passes (stays m k a (λ q. ltb-false (w m) (w k) e))))
-        go k (not-so p) (none-passes e f) = rw p (none-passes e (λ j u. none-yet p f j u (same? j m)))
-        go k (not-so p) (one-passes a) = rw p (one-passes (stays m k a (λ q. absurd (true≢false (sym q ∙ p)))))
+            (λ e. some-pass (smallest-next m p (λ j u q. omega (arith, ltb-true (w m) (w k) e, a .smallest j u q))))
+            (λ e. some-pass (smallest-stays m k a (λ q. ltb-false (w m) (w k) e))))
+        go k (not-so p) (none-pass e f) = rw p (none-pass e (λ j u. none-yet p f j u (same? j m)))
+        go k (not-so p) (some-pass a) = rw p (some-pass (smallest-stays m k a (λ q. absurd (true≢false (sym q ∙ p)))))
 
     -- where none passes, and one number further, where that one does
     pub argmin-none : (m : ℕ) → ((j : ℕ) → j < m → P j ≡ false) → argminBelow none P w m ≡ none

@@ -142,6 +142,8 @@ rows =
     row (48 ∷ 32 ∷ 51 ∷ 99 ∷ 68 ∷ 10 ∷ 48 ∷ 32 ∷ 51 ∷ 101 ∷ 67 ∷ 10 ∷ 48 ∷ 32 ∷ 51 ∷ 69 ∷ 100 ∷ 10 ∷ []) 3 8 0 0 0 0 0 ∷
     -- processor 0 writes, and processor 1 holds the block: 1 update cycle
     row (48 ∷ 32 ∷ 48 ∷ 10 ∷ 48 ∷ 32 ∷ 49 ∷ 48 ∷ 48 ∷ 48 ∷ 48 ∷ 48 ∷ 48 ∷ 10 ∷ 49 ∷ 32 ∷ 48 ∷ 10 ∷ []) 3 8 0 1 0 0 3 ∷
+    -- "0 1000000\n1 0\n1 0\n1 0\n1 2000000\n0 1000000\n": at line 5 processor 1, with counter 1, pays and not processor 0, with 4; so line 6 is a miss (P5)
+    row (48 ∷ 32 ∷ 49 ∷ 48 ∷ 48 ∷ 48 ∷ 48 ∷ 48 ∷ 48 ∷ 10 ∷ 49 ∷ 32 ∷ 48 ∷ 10 ∷ 49 ∷ 32 ∷ 48 ∷ 10 ∷ 49 ∷ 32 ∷ 48 ∷ 10 ∷ 49 ∷ 32 ∷ 50 ∷ 48 ∷ 48 ∷ 48 ∷ 48 ∷ 48 ∷ 48 ∷ 10 ∷ 48 ∷ 32 ∷ 49 ∷ 48 ∷ 48 ∷ 48 ∷ 48 ∷ 48 ∷ 48 ∷ 10 ∷ []) 6 16 0 4 0 0 5 ∷
     -- lent tables: of the right lengths, whatever they hold
     lentCase 32 32 32 128 256 0 ∷
     -- 2: each too short, or too long

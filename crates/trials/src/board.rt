@@ -96,29 +96,48 @@ pub(crate) fn other_holder(cells: &Cells, i: u32, b: u32) -> u32 {
     found
 }
 
-// The counter of processor j's copy of block b; 0 if it has none, or is processor i.
-fn other_counter(cells: &Cells, i: u32, j: u32, b: u32) -> u32 {
-    if j == i {
-        return 0;
+// The smaller of two counters, of which 0 is none.
+fn smaller(a: u32, c: u32) -> u32 {
+    if a == 0 {
+        return c;
     }
-    counter(cells, j, b)
+    if c == 0 {
+        return a;
+    }
+    if c < a {
+        return c;
+    }
+    a
 }
 
-// Who pays for a write to block b by processor i: of the others the one with the smallest counter, the lowest among
-// equals; PROCESSORS if no other has a copy. It is sought from the top, and no counter is over `full`.
-pub(crate) fn payer(cells: &Cells, full: u32, i: u32, b: u32) -> u32 {
-    let mut found = PROCESSORS;
-    let mut smallest = full;
-    let mut j = PROCESSORS;
-    while j > 0 {
-        j -= 1;
-        let c = other_counter(cells, i, j, b);
-        if c > 0 && c <= smallest {
-            found = j;
-            smallest = c;
+// The smallest counter of a copy of block b that a processor other than i has; 0 if no other has one.
+fn smallest_counter(cells: &Cells, i: u32, b: u32) -> u32 {
+    let mut smallest = 0;
+    let mut j = 0;
+    while j < PROCESSORS {
+        if j != i {
+            smallest = smaller(smallest, counter(cells, j, b));
         }
+        j += 1;
     }
-    found
+    smallest
+}
+
+// Who pays for a write to block b by processor i; PROCESSORS if no other has a copy. The smallest counter is sought
+// first, and then who has it.
+pub(crate) fn payer(cells: &Cells, i: u32, b: u32) -> u32 {
+    let smallest = smallest_counter(cells, i, b);
+    if smallest == 0 {
+        return PROCESSORS;
+    }
+    let mut j = 0;
+    while j < PROCESSORS {
+        if j != i && counter(cells, j, b) == smallest {
+            return j;
+        }
+        j += 1;
+    }
+    PROCESSORS
 }
 
 // Whether processor i has block a, and a may stand only where b may, of `lines` lines.

@@ -109,7 +109,7 @@ fn bring(cells: &mut Cells, setup: Setup, i: u32, b: u32) -> Moved {
 fn change(cells: &mut Cells, fetch_price: u32, i: u32, b: u32, v: u32, x: u32) -> u32 {
     set_counter(cells, i, b, fetch_price);
     set_current(cells, v, x);
-    let j = payer(cells, fetch_price, i, b);
+    let j = payer(cells, i, b);
     if j >= PROCESSORS {
         set_owner(cells, b, sum(i, 1));
         return 0;

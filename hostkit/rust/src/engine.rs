@@ -57,7 +57,7 @@ pub fn look(setup: Setup, tables: &Tables, processor: u32, block: Block) -> &[u3
 ///
 /// A write to a block that other caches hold too lowers the smallest of their counters by 1, of equal
 /// ones the lowest processor's, and at 0 that line becomes empty. (Up to version 0.3 it was the lowest
-/// other holder's, whatever the counters.)
+/// other holder's, whatever the counters; tables and accounts of then may be used on.)
 ///
 /// ```
 /// use cuzkelor::{run, Account, Request, Tables, Variable, TRACE_SETUP};

@@ -2,7 +2,8 @@ use crate::archive::check_version;
 use crate::{raw, Account, Refusal, Tables, TraceError};
 
 /// Counts a whole din trace over tables of [`TRACE_SETUP`](crate::TRACE_SETUP), which it starts
-/// itself.
+/// itself. Who pays for a write is said at [`run`](crate::run): the counts of a trace may differ from
+/// those up to version 0.3.
 ///
 /// ```
 /// use cuzkelor::{count_trace, Tables, TRACE_SETUP};

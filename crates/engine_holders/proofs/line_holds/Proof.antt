@@ -1,10 +1,7 @@
 -- A line holds the block that it names, unless it is empty.
 use borrow.Author.Needs.{needs}
 use mathlib.Core.Bool.{and-false, and-true}
-use native.Mathlib.Omega.{arith}
 use borrow.Author.Tests.{eq-eqb, ne-eqb}
-use denote.Ref.{now}
-use Rattle.protocol_types.specs.Lists.{at}
 use Rattle.protocol.specs.Tables.{holdsAt}
 use Rattle.engine_holders.proofs.line_holds.Statement.{statement}
 use Rattle.engine_holders.proofs.line_holds.Tie as tie

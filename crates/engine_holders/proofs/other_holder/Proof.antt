@@ -8,8 +8,8 @@ use mathlib.Core.List.{List}
 use native.Mathlib.Omega.{arith}
 use denote.Ref.{now}
 use Rattle.protocol_types.specs.Lists.{firstFrom}
-use Rattle.protocol.specs.Tables.{tables, otherHolds}
-use Rattle.engine_holders.specs.Searches.{otherHolder}
+use Rattle.protocol.specs.Tables.{tables}
+use Rattle.engine_holders.specs.Searches.{otherHolds, otherHolder}
 use Rattle.protocol_types.proofs.Search.{search-started, search-found, search-passed, search-ended}
 use Rattle.engine_holders.proofs.Search.{other-holder-is}
 use Rattle.engine_holders.proofs.other_holder.Statement.{statement}

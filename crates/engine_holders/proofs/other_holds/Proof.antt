@@ -1,7 +1,7 @@
 -- The processor itself is no other one.
 use borrow.Author.Needs.{needs}
 use borrow.Author.Tests.{eq-eqb, ne-eqb}
-use Rattle.protocol.specs.Tables.{otherHolds}
+use Rattle.engine_holders.specs.Searches.{otherHolds}
 use Rattle.engine_holders.proofs.other_holds.Statement.{statement}
 use Rattle.engine_holders.proofs.other_holds.Tie as tie
 

@@ -40,13 +40,13 @@ impl Board<'_> {
 
     #[inline]
     fn holds(&self, slot: usize, block: u32) -> bool {
-        self.counters[slot] != 0 && self.blocks[slot] == block
+        self.blocks[slot] == block && self.counters[slot] != 0
     }
 
-    /// The lowest-numbered other holder of the block in a line.
+    /// Whether another processor holds the block, in that line.
     #[inline]
-    fn other_holder(&self, i: usize, line: usize, block: u32) -> Option<usize> {
-        (0..self.n).find(|&j| j != i && self.holds(j * self.l + line, block))
+    fn shared(&self, i: usize, line: usize, block: u32) -> bool {
+        (0..self.n).any(|j| j != i && self.holds(j * self.l + line, block))
     }
 
     /// The slot of the other holder with the smallest counter, the lowest among equals.
@@ -72,7 +72,7 @@ impl Board<'_> {
         }
         match self.marks[slot] {
             0 => words == &self.memory[at * self.p..][..self.p],
-            1 => counter == self.fetch_price && self.other_holder(i, line, block).is_none(),
+            1 => counter == self.fetch_price && !self.shared(i, line, block),
             _ => false,
         }
     }

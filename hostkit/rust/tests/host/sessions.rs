@@ -1,9 +1,9 @@
-//! The document's own cases, S1 to S12, some of them at other prices, and the printed trace, with
-//! nothing but the safe functions.
+//! The document's own cases, S1 to S12, some of them at other prices, who pays, and the printed
+//! trace, with nothing but the safe functions.
 
 use cuzkelor::{
-    count_trace, look, run, start, Account, Block, Refusal, Request, RunError, Setup, Tables,
-    Variable, TRACE_SETUP,
+    count_trace, generate, look, run, start, Account, Block, Refusal, Request, RunError, Setup,
+    Tables, Variable, TRACE_SETUP,
 };
 
 /// Tables and account of one host.
@@ -191,29 +191,58 @@ fn the_weakest_other_holder_pays() {
     assert_eq!(host.line_0(2), (1, 0));
 }
 
-/// Tables as a host may lend them: four copies of block 0, with these counters.
-fn lent_counters(counters: [u32; 4]) -> Host {
+/// A write to block 0 by `writer`, where the four caches have these counters of it, 0 for no copy.
+fn write_over(counters: [u32; 4], writer: u32) {
     let mut host = Host::fresh(TRACE_SETUP);
-    for (processor, counter) in counters.into_iter().enumerate() {
-        host.tables.counters[processor * TRACE_SETUP.lines as usize] = counter;
+    for (at, counter) in host.tables.counters.iter_mut().step_by(8).zip(counters) {
+        *at = counter;
     }
-    host
+    let payer = (0..4)
+        .filter(|&i| i != writer && counters[i as usize] > 0)
+        .min_by_key(|&i| counters[i as usize]);
+    let missed = counters[writer as usize] == 0;
+    let cycles = [4 * u32::from(missed), 0, u32::from(payer.is_some())];
+    assert_eq!(host.write(writer, 0, 5), (5, cycles));
+    for (i, before) in (0..).zip(counters) {
+        let after = match i {
+            _ if i == writer => (4, u32::from(payer.is_none())),
+            _ => (before - u32::from(payer == Some(i)), 0),
+        };
+        assert_eq!(host.line_0(i), after, "{counters:?}, {writer} writes");
+    }
 }
 
 #[test]
-fn the_payer_on_lent_tables() {
-    // the counters, the writer, and the counters after its write
-    let cases = [
-        ([4, 2, 2, 3], 3, [4, 1, 2, 4]),
-        ([3, 2, 4, 4], 3, [3, 1, 4, 4]),
-        ([3, 4, 2, 1], 1, [3, 4, 2, 0]),
-        ([1, 3, 2, 3], 0, [4, 3, 1, 3]),
-        ([3, 3, 1, 3], 2, [2, 3, 4, 3]),
-    ];
-    for (counters, writer, after) in cases {
-        let mut host = lent_counters(counters);
-        assert_eq!(host.write(writer, 0, 5), (5, [0, 0, 1]));
-        assert_eq!([0, 1, 2, 3].map(|i| host.line_0(i)), after.map(|c| (c, 0)));
+fn the_payer_of_any_counters() {
+    for number in 0..5_u32.pow(4) {
+        for writer in 0..4 {
+            write_over([125, 25, 5, 1].map(|place| number / place % 5), writer);
+        }
+    }
+}
+
+/// From fresh tables at most one copy of a block has a counter that is not full.
+#[test]
+fn one_copy_below_full() {
+    let setup = Setup {
+        processors: 8,
+        lines: 2,
+        block_words: 2,
+        block_count: 5,
+        fetch_price: 6,
+        write_back_price: 1,
+    };
+    for (setup, seed) in [(TRACE_SETUP, 7), (setup, 8), (priced(3, 2), 9)] {
+        let mut host = Host::fresh(setup);
+        for request in generate(setup, seed, 5000).expect("in range") {
+            host.one(request);
+            let lines = || host.tables.blocks.iter().zip(&host.tables.counters);
+            for (block, _) in lines().filter(|(_, &counter)| counter > 0) {
+                let below = |counter| (1..setup.fetch_price).contains(counter);
+                let copies = lines().filter(|(other, counter)| *other == block && below(counter));
+                assert!(copies.count() <= 1, "block {block}, seed {seed}");
+            }
+        }
     }
 }
 
