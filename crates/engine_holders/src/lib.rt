@@ -12,7 +12,7 @@ ghost use Rattle.protocol.specs.Lent.{before, unlent, PerSlot, PerSlotWord};
 ghost use Rattle.protocol.specs.Rules.{payer, owner, updatedCopies};
 ghost use Rattle.engine_holders.specs.Searches.{otherHolds, otherHolder, weaker, owns, updatedCopy};
 
-// Whether slot k holds a block. The block number is tested first, since more lines hold another block than are empty.
+// Whether slot k holds a block. The block number is tested first: in a full cache it alone can differ.
 fn line_holds(k: usize, block: Block, blocks: &[u32], counters: &[u32]) -> bool
     requires { ⌜ (k < length (now blocks)) × (k < length (now counters)) ⌝ }
     ensures { λ r. ⌜ ((m w g : List ℕ) → r ≡ holdsAt (before blocks counters (unlent m) (unlent w) (unlent g)) k block) ⌝ }
