@@ -5,7 +5,7 @@ use mathlib.Core.Bool.{true}
 use native.Mathlib.Nat.{mul-le-mul-right, mul-add}
 use native.Mathlib.Omega.{arith}
 use borrow.Author.Tests.{leb-true, le-leb}
-use Rattle.protocol_types.specs.Board.{priceLimit, Fits, fetchPrice, mostWriteBack}
+use Rattle.protocol_types.specs.Board.{priceLimit, mostWriteBackLimit, Fits, fetchPrice, mostWriteBack}
 use Rattle.protocol.specs.Accounts.{nothing, plus, possible, Spent, billOf}
 use Rattle.protocol_types.specs.declared.Setup.{Setup}
 use Rattle.protocol_types.specs.declared.Bill.{Bill}
@@ -32,10 +32,10 @@ module _ (s : Setup) where
   }
 
   -- in numbers, for sums that have to fit a machine's
-  pub spent-numbers : Fits s → (n : ℕ) (c : Bill) → Spent s n c → (c .fetch ≤ priceLimit * n) × (c .«write_back» ≤ priceLimit * n) × (c .update ≤ n)
+  pub spent-numbers : Fits s → (n : ℕ) (c : Bill) → Spent s n c → (c .fetch ≤ priceLimit * n) × (c .«write_back» ≤ mostWriteBackLimit * n) × (c .update ≤ n)
   spent-numbers f n c x =
       let p : fetchPrice s * n ≤ priceLimit * n = mul-le-mul-right n (f .few-fetch) in
-      let w : mostWriteBack s * n ≤ priceLimit * n = mul-le-mul-right n (f .few-write-back) in
+      let w : mostWriteBack s * n ≤ mostWriteBackLimit * n = mul-le-mul-right n (f .few-write-back) in
       (omega (arith, x .fetch), omega (arith, x .write-back), x .update)
 
 -- 21 as facts

@@ -6,15 +6,15 @@ use lib.ListN.{length, set, length-set, length-replicate}
 use lib.Seq.{length-sets}
 use lib.Dec.{ltb, eqb}
 use Rattle.protocol_types.specs.Lists.{at}
-use Rattle.protocol_types.specs.Board.{variables, slots, slot, wordIndex, blockOf, offsetOf}
+use Rattle.protocol_types.specs.Board.{variables, slots, lineSlot, slot, wordIndex, blockOf, offsetOf}
 use Rattle.protocol.specs.Tables.{Tables, tables, Sized, fresh, counter, holds, sharing, marked}
-use Rattle.protocol.specs.Rules.{writtenBack, emptied, filled, saved, evicted, owner, released, fetched, obtained, writtenAlone, updatedCopies, broadcast, charged, written}
+use Rattle.protocol.specs.Rules.{writtenBack, emptied, filled, saved, evicted, owner, released, fetched, obtained, writtenAlone, updatedCopies, broadcast, charged, written, cleared}
 use Rattle.protocol.specs.Requests.{servedBy, served}
 use Rattle.protocol_types.specs.declared.Setup.{Setup}
 use Rattle.protocol_types.specs.declared.Block.{Block}
 use Rattle.protocol_types.specs.declared.Request.{Request}
 use Rattle.protocol_types.specs.declared.Operation.{Operation}
-use Rattle.protocol_types.specs.declared.Operation.the-variants.{Read, Write}
+use Rattle.protocol_types.specs.declared.Operation.the-variants.{Read, Write, Clear}
 use Rattle.protocol_types.proofs.Laws.{choice, at-set-same}
 
 pub sized-fresh : (s : Setup) → Sized s (fresh s)
@@ -147,10 +147,15 @@ sized-obtained s t z i b =
     choice (Sized s) (holds s t i b) (λ e. z)
     (λ e. sized-fetched s (evicted s t (slot s i b)) (sized-evicted s t z (slot s i b)) (slot s i b) b)
 
+pub sized-cleared : (s : Setup) (t : Tables) → Sized s t → (i n : ℕ) → Sized s (cleared s t i n)
+sized-cleared s t z i zero = z
+sized-cleared s t z i (suc n) = sized-evicted s (cleared s t i n) (sized-cleared s t z i n) (lineSlot s i n)
+
 pub sized-servedBy : (s : Setup) (t : Tables) → Sized s t → (i : ℕ) (o : Operation) → Sized s (servedBy s t i o)
 sized-servedBy s t z i (Read v) = sized-obtained s t z i (blockOf s v)
 sized-servedBy s t z i (Write v x) =
     sized-written s (obtained s t i (blockOf s v)) (sized-obtained s t z i (blockOf s v)) i (blockOf s v) (offsetOf s v) x
+sized-servedBy s t z i Clear = sized-cleared s t z i (s .lines)
 
 pub sized-served : (s : Setup) (t : Tables) → Sized s t → (q : Request) → Sized s (served s t q)
 unfolding served

@@ -7,15 +7,15 @@ use native.Mathlib.Omega.{arith}
 use lib.ListN.{length, length-set, length-replicate}
 use lib.Dec.{ltb}
 use borrow.Author.Tests.{ltb-true, lt-ltb}
-use Rattle.protocol_types.specs.Refusals.{noRefusal, noSuchProcessor, noSuchBlock, readByBroadcast, completionNotHeld}
+use Rattle.protocol_types.specs.Refusals.{noRefusal, noSuchProcessor, noSuchBlock, broadcastWithoutWrite, completionNotHeld, cacheNotEmpty}
 use Rattle.protocol_types.specs.Board.{slots, slot, blockOf}
 use Rattle.protocol_types.specs.Conditions.{Valid}
-use Rattle.protocol.specs.Rival.{Rival, RivalSized, noCopies, keeps, shared, unmarked, rivalFetched, rivalWrittenBack, rivalDropped, completedMarks, rivalCompleted, played, moveRefusal, readyRefusal, completionRefusal}
+use Rattle.protocol.specs.Rival.{Rival, RivalSized, noCopies, keeps, shared, emptyCache, unmarked, rivalFetched, rivalWrittenBack, rivalDropped, completedMarks, rivalCompleted, played, moveRefusal, readyRefusal, completionRefusal}
 use Rattle.protocol_types.specs.declared.Setup.{Setup}
 use Rattle.protocol_types.specs.declared.Block.{Block}
 use Rattle.protocol_types.specs.declared.Request.{Request}
 use Rattle.protocol_types.specs.declared.Operation.{Operation}
-use Rattle.protocol_types.specs.declared.Operation.the-variants.{Read, Write}
+use Rattle.protocol_types.specs.declared.Operation.the-variants.{Read, Write, Clear}
 use Rattle.protocol_types.specs.declared.Entry.{Entry}
 use Rattle.protocol_types.specs.declared.Entry.the-variants.{Fetch, WriteBack, Drop, Complete, CompleteByBroadcast}
 use Rattle.protocol_types.proofs.Laws.{choice, chosen-zero}
@@ -40,17 +40,22 @@ move-legal s i b n e =
 abbrev pub Completable : Setup → Rival → ℕ → Operation → Type 0
 Completable s r i (Read v) = keeps s r i (blockOf s v) ≡ true
 Completable s r i (Write v x) = keeps s r i (blockOf s v) ≡ true
+Completable s r i Clear = emptyCache s r i ≡ true
 
 ready-passed : (s : Setup) (r : Rival) (i : ℕ) (o : Operation) (a : Bool) → readyRefusal s r i o a ≡ 0 → Completable s r i o
 ready-passed s r i (Read v) a e =
     let kept : ℕ = cond (keeps s r i (blockOf s v)) noRefusal completionNotHeld in
-    chosen-zero (keeps s r i (blockOf s v)) noRefusal completionNotHeld (omega arith) (chosen-zero (not a) kept readByBroadcast (omega arith) e .1) .0
+    chosen-zero (keeps s r i (blockOf s v)) noRefusal completionNotHeld (omega arith) (chosen-zero (not a) kept broadcastWithoutWrite (omega arith) e .1) .0
 ready-passed s r i (Write v x) a e = chosen-zero (keeps s r i (blockOf s v)) noRefusal completionNotHeld (omega arith) e .0
+ready-passed s r i Clear a e =
+    let empty : ℕ = cond (emptyCache s r i) noRefusal cacheNotEmpty in
+    chosen-zero (emptyCache s r i) noRefusal cacheNotEmpty (omega arith) (chosen-zero (not a) empty broadcastWithoutWrite (omega arith) e .1) .0
 
 -- and that this is enough, plainly
 pub ready-passes : (s : Setup) (r : Rival) (i : ℕ) (o : Operation) → Completable s r i o → readyRefusal s r i o false ≡ 0
 ready-passes s r i (Read v) e = rw e
 ready-passes s r i (Write v x) e = rw e
+ready-passes s r i Clear e = rw e
 
 -- a completion
 pub record Completion (s : Setup) (r : Rival) (q : Request) : Type 0 where
@@ -110,6 +115,7 @@ module _ (s : Setup) (r : Rival) (z : RivalSized s r) where
   length-completedMarks i (Read v) = refl
   length-completedMarks i (Write v x) =
       choice (λ z. length z ≡ length (r .marks)) (shared s r i (blockOf s v)) (λ e. refl) (λ e. length-set (r .marks) (slot s i (blockOf s v)) 1)
+  length-completedMarks i Clear = refl
 
   sized-completed : (q : Request) → RivalSized s (rivalCompleted s r q)
   unfolding rivalCompleted

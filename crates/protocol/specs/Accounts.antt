@@ -54,7 +54,7 @@ pub record Spent (s : Setup) (n : ℕ) (c : Bill) : Type 0 where
 abbrev pub billOf : Account → Bill
 billOf a = record { fetch = a .fetch; «write_back» = a .«write_back»; update = a .update }
 
--- 21: impossible if fetch cycles are over f × requests, write-back cycles over g × requests, or update cycles over requests
+-- 21: impossible if fetch cycles are over f × requests, write-back cycles over g × L × requests (document 02, P6), or update cycles over requests
 unfoldable pub possible : Setup → Account → Bool
 possible s a =
     leb (a .fetch) (fetchPrice s * a .requests) && leb (a .«write_back») (mostWriteBack s * a .requests)

@@ -1,20 +1,20 @@
--- A rival's schedule, entry by entry (document 01, "Rival schedules").
+-- A rival's schedule, entry by entry (document 01, "Rival schedules"; clears: document 02, P6).
 use Prim.Native.Nat.{ℕ, zero, suc}
 use mathlib.Core.Path.{_≡_}
 use mathlib.Core.Bool.{Bool, true, false, not, _&&_, cond}
 use mathlib.Core.List.{List, [], _∷_}
 use lib.ListN.{length, set}
 use lib.Dec.{ltb, eqb}
-use Rattle.protocol_types.specs.Lists.{at, zeros, tail, other}
-use Rattle.protocol_types.specs.Refusals.{noRefusal, unless, noSuchProcessor, noSuchBlock, readByBroadcast, lineInUse, blockNotHeld, dropOfMarked, noRequestLeft, completionNotHeld, requestsLeft}
-use Rattle.protocol_types.specs.Board.{slots, slot, blockOf, fetchPrice, writeBackPrice}
+use Rattle.protocol_types.specs.Lists.{at, zeros, tail, other, all}
+use Rattle.protocol_types.specs.Refusals.{noRefusal, unless, noSuchProcessor, noSuchBlock, broadcastWithoutWrite, lineInUse, blockNotHeld, dropOfMarked, noRequestLeft, completionNotHeld, requestsLeft, cacheNotEmpty}
+use Rattle.protocol_types.specs.Board.{slots, lineSlot, slot, blockOf, fetchPrice, writeBackPrice}
 use Rattle.protocol_types.specs.Conditions.{namedRefusal}
 use Rattle.protocol.specs.Accounts.{nothing, plus}
 use Rattle.protocol_types.specs.declared.Setup.{Setup}
 use Rattle.protocol_types.specs.declared.Block.{Block}
 use Rattle.protocol_types.specs.declared.Request.{Request}
 use Rattle.protocol_types.specs.declared.Operation.{Operation}
-use Rattle.protocol_types.specs.declared.Operation.the-variants.{Read, Write}
+use Rattle.protocol_types.specs.declared.Operation.the-variants.{Read, Write, Clear}
 use Rattle.protocol_types.specs.declared.Bill.{Bill}
 use Rattle.protocol_types.specs.declared.Entry.{Entry}
 use Rattle.protocol_types.specs.declared.Entry.the-variants.{Fetch, WriteBack, Drop, Complete, CompleteByBroadcast}
@@ -57,6 +57,10 @@ keeps s r i b = keepsAt r (slot s i b) b
 unfoldable pub shared : Setup → Rival → ℕ → Block → Bool
 shared s r i b = ltb (other (s .processors) i (λ j. keeps s r j b)) (s .processors)
 
+-- no line of processor i's cache holds a block
+unfoldable pub emptyCache : Setup → Rival → ℕ → Bool
+emptyCache s r i = all (s .lines) (λ l. eqb (at (r .held) (lineSlot s i l)) 0)
+
 -- the marks, with b's cleared at the first n processors
 abbrev pub unmarked : Setup → Rival → Block → ℕ → List ℕ
 unmarked s r b zero = r .marks
@@ -81,6 +85,7 @@ rivalDropped s r i b = rival (set (r .blocks) (slot s i b) 0) (set (r .held) (sl
 abbrev pub completedMarks : Setup → Rival → ℕ → Operation → List ℕ
 completedMarks s r i (Read v) = r .marks
 completedMarks s r i (Write v x) = cond (shared s r i (blockOf s v)) (r .marks) (set (r .marks) (slot s i (blockOf s v)) 1)
+completedMarks s r i Clear = r .marks
 
 unfoldable pub rivalCompleted : Setup → Rival → Request → Rival
 rivalCompleted s r q = rival (r .blocks) (r .held) (completedMarks s r (q .processor) (q .operation))
@@ -108,10 +113,11 @@ left qs CompleteByBroadcast = tail qs
 
 -- ---- what an entry costs
 
--- a read 0; a write 0 where the block has one holder, else 1; by broadcast 1
+-- a read or a clear 0; a write 0 where the block has one holder, else 1; by broadcast 1
 abbrev pub completionBy : Setup → Rival → ℕ → Operation → Bool → ℕ
 completionBy s r i (Read v) byBroadcast = 0
 completionBy s r i (Write v x) byBroadcast = cond byBroadcast 1 (cond (shared s r i (blockOf s v)) 1 0)
+completionBy s r i Clear byBroadcast = 0
 
 unfoldable pub completionCycles : Setup → Rival → Request → Bool → ℕ
 completionCycles s r q byBroadcast = completionBy s r (q .processor) (q .operation) byBroadcast
@@ -136,12 +142,15 @@ moveRefusal s i b n =
     unless (ltb i (s .processors)) noSuchProcessor
     (unless (ltb (b .0) (s .blocks)) noSuchBlock n)
 
--- 9, 27
+-- 9, then 27, or at a clear 29: it "needs that cache empty"
 abbrev pub readyRefusal : Setup → Rival → ℕ → Operation → Bool → ℕ
 readyRefusal s r i (Read v) byBroadcast =
-    unless (not byBroadcast) readByBroadcast
+    unless (not byBroadcast) broadcastWithoutWrite
     (unless (keeps s r i (blockOf s v)) completionNotHeld noRefusal)
 readyRefusal s r i (Write v x) byBroadcast = unless (keeps s r i (blockOf s v)) completionNotHeld noRefusal
+readyRefusal s r i Clear byBroadcast =
+    unless (not byBroadcast) broadcastWithoutWrite
+    (unless (emptyCache s r i) cacheNotEmpty noRefusal)
 
 -- at each completion of a request 3, 4, then these
 unfoldable pub completionRefusal : Setup → Rival → Request → Bool → ℕ

@@ -1,12 +1,12 @@
--- Rules 1 to 5 on the tables, and the cycles of each (document 01, "What one request does").
-use Prim.Native.Nat.{ℕ, zero, suc, _-_}
+-- Rules 1 to 5 and a clear on the tables, and the cycles of each (document 01, "What one request does"; document 02, P6).
+use Prim.Native.Nat.{ℕ, zero, suc, _+_, _-_}
 use mathlib.Core.Bool.{_&&_, cond}
 use mathlib.Core.List.{List}
 use lib.ListN.{set}
 use lib.Seq.{sets}
 use lib.Dec.{ltb, eqb}
 use Rattle.protocol_types.specs.Lists.{zeros, first, another, argmin}
-use Rattle.protocol_types.specs.Board.{fetchPrice, writeBackPrice, slot, wordIndex, memoryIndex}
+use Rattle.protocol_types.specs.Board.{fetchPrice, writeBackPrice, lineSlot, slot, wordIndex, memoryIndex}
 use Rattle.protocol.specs.Tables.{Tables, tables, counter, block, lineWords, memoryWords, holds, sharing, lineCounter, marked}
 use Rattle.protocol_types.specs.declared.Setup.{Setup}
 use Rattle.protocol_types.specs.declared.Block.{Block}
@@ -106,3 +106,15 @@ written s t i b o x =
 -- 1 cycle if another cache holds b, else 0
 unfoldable pub updateCycles : Setup → Tables → ℕ → Block → ℕ
 updateCycles s t i b = cond (sharing s t i b) 1 0
+
+-- ---- processor i's cache is cleared, "from line 0 up" (document 02, P6)
+
+-- the first n lines, each as rule 1 empties it: a marked block is written back first
+abbrev pub cleared : Setup → Tables → ℕ → ℕ → Tables
+cleared s t i zero = t
+cleared s t i (suc n) = evicted s (cleared s t i n) (lineSlot s i n)
+
+-- "marked blocks are written back at g each"
+abbrev pub clearCycles : Setup → Tables → ℕ → ℕ → ℕ
+clearCycles s t i zero = 0
+clearCycles s t i (suc n) = clearCycles s t i n + saveCycles s (cleared s t i n) (lineSlot s i n)

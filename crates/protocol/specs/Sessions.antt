@@ -1,6 +1,6 @@
 -- The twelve sessions of document 01 and the cases beside them, then those of document 02, as one table. proofs/Sessions proves that every row passes.
 -- A session compares the answer, the values, the account and every entry of every table with what the row says.
-use Prim.Native.Nat.{ℕ, suc, _+_, _*_}
+use Prim.Native.Nat.{ℕ, zero, suc, _+_, _*_}
 use mathlib.Core.Bool.{Bool, true, false, _&&_, not, cond}
 use mathlib.Core.List.{List, [], _∷_}
 use lib.ListN.{length, replicate, set}
@@ -17,7 +17,7 @@ use Rattle.protocol.specs.Generator.{draws, generateRefusal, generated}
 use Rattle.protocol_types.specs.declared.Setup.{Setup}
 use Rattle.protocol_types.specs.declared.Request.{Request}
 use Rattle.protocol_types.specs.declared.Operation.{Operation}
-use Rattle.protocol_types.specs.declared.Operation.the-variants.{Read, Write}
+use Rattle.protocol_types.specs.declared.Operation.the-variants.{Read, Write, Clear}
 use Rattle.protocol_types.specs.declared.Bill.{Bill}
 use Rattle.protocol_types.specs.declared.Account.{Account}
 use Rattle.protocol_types.specs.declared.RunAnswer.{RunAnswer}
@@ -59,6 +59,9 @@ read i v = record { processor = i; operation = Read (record { 0 = v }) }
 
 abbrev pub write : ℕ → ℕ → ℕ → Request
 write i v x = record { processor = i; operation = Write (record { 0 = v }) x }
+
+abbrev pub clear : ℕ → Request
+clear i = record { processor = i; operation = Clear }
 
 -- what stands in a list that is lent to the generator
 abbrev pub unwritten : Request
@@ -148,8 +151,13 @@ sameNumbers a c = eqb (a .number) (c .number) && eqb (a .place) (c .place) && eq
 abbrev pub sameOperation : Operation → Operation → Bool
 sameOperation (Read v) (Read w) = eqb (v .0) (w .0)
 sameOperation (Read v) (Write w y) = false
+sameOperation (Read v) Clear = false
 sameOperation (Write v x) (Read w) = false
 sameOperation (Write v x) (Write w y) = eqb (v .0) (w .0) && eqb x y
+sameOperation (Write v x) Clear = false
+sameOperation Clear (Read w) = false
+sameOperation Clear (Write w y) = false
+sameOperation Clear Clear = true
 
 abbrev pub sameRequests : List Request → List Request → Bool
 sameRequests [] [] = true
@@ -244,6 +252,16 @@ refusedAt s qs es n k =
 abbrev pub copiesOf9 : ℕ → List ℕ → List ℕ → List Copy
 copiesOf9 i [] ws = []
 copiesOf9 i (c ∷ cs) ws = cond (eqb c 0) (copiesOf9 (suc i) cs ws) (copy (i * 8 + 1) 9 c 0 ws ∷ copiesOf9 (suc i) cs ws)
+
+-- a cache in which each of the first n lines has a marked block, on a board of one processor and one word a block: in line l block l, with word l + 7
+abbrev pub markedCache : ℕ → ℕ → List Copy
+markedCache f zero = []
+markedCache f (suc n) = copy n n f 1 ((n + 7) ∷ []) ∷ markedCache f n
+
+-- and main memory with these words
+abbrev pub writtenCells : ℕ → List Cell
+writtenCells zero = []
+writtenCells (suc n) = cell n (n + 7) ∷ writtenCells n
 
 -- copies of block 9 with these counters, a write to it by processor i, and the counters then
 abbrev pub payment : List ℕ → ℕ → List ℕ → Row
@@ -736,16 +754,16 @@ rows =
       lines = [];
       memory = [];
     })
-    -- 21: write-back cycles over g × requests
+    -- 21: write-back cycles over g × L × requests (P6)
     ∷ session (record {
       setup = usual;
-      account = account 2 8 9 2;
+      account = account 2 8 65 2;
       before = [];
       requests = read 1 39 ∷ [];
       values = 9 ∷ [];
       answer = answered 0 21 0;
       cost = cost 0 0 0;
-      left = account 2 8 9 2;
+      left = account 2 8 65 2;
       changes = false;
       lines = [];
       memory = [];
@@ -767,13 +785,13 @@ rows =
     -- an account at its limits is possible
     ∷ session (record {
       setup = usual;
-      account = account 2 8 8 2;
+      account = account 2 8 64 2;
       before = [];
       requests = read 1 39 ∷ [];
       values = 0 ∷ [];
       answer = answered 1 0 0;
       cost = cost 4 0 0;
-      left = account 3 12 8 2;
+      left = account 3 12 64 2;
       changes = true;
       lines = copy 9 9 4 0 (0 ∷ 0 ∷ 0 ∷ 0 ∷ []) ∷ [];
       memory = [];
@@ -1889,16 +1907,16 @@ rows =
       lines = copy 1 1 5 1 (9 ∷ 5 ∷ []) ∷ copy 3 3 5 0 (0 ∷ 0 ∷ []) ∷ [];
       memory = cell 3 5 ∷ [];
     })
-    -- an account at f × requests and g × requests is possible
+    -- an account at f × requests and g × L × requests is possible
     ∷ session (record {
       setup = dearFetch;
-      account = account 2 10 6 2;
+      account = account 2 10 12 2;
       before = [];
       requests = read 1 2 ∷ [];
       values = 0 ∷ [];
       answer = answered 1 0 0;
       cost = cost 5 0 0;
-      left = account 3 15 6 2;
+      left = account 3 15 12 2;
       changes = true;
       lines = copy 3 1 5 0 (0 ∷ 0 ∷ []) ∷ [];
       memory = [];
@@ -1906,27 +1924,27 @@ rows =
     -- 21: fetch cycles over f × requests, p below f
     ∷ session (record {
       setup = dearFetch;
-      account = account 2 11 6 2;
+      account = account 2 11 12 2;
       before = [];
       requests = read 1 2 ∷ [];
       values = 9 ∷ [];
       answer = answered 0 21 0;
       cost = cost 0 0 0;
-      left = account 2 11 6 2;
+      left = account 2 11 12 2;
       changes = false;
       lines = [];
       memory = [];
     })
-    -- 21: write-back cycles over g × requests, but not over f × requests
+    -- 21: write-back cycles over g × L × requests, but not over f × L × requests
     ∷ session (record {
       setup = dearFetch;
-      account = account 2 10 7 2;
+      account = account 2 10 13 2;
       before = [];
       requests = read 1 2 ∷ [];
       values = 9 ∷ [];
       answer = answered 0 21 0;
       cost = cost 0 0 0;
-      left = account 2 10 7 2;
+      left = account 2 10 13 2;
       changes = false;
       lines = [];
       memory = [];
@@ -1934,13 +1952,13 @@ rows =
     -- at these limits with f below p
     ∷ session (record {
       setup = cheapFetch;
-      account = account 2 6 4 2;
+      account = account 2 6 8 2;
       before = [];
       requests = read 1 4 ∷ [];
       values = 0 ∷ [];
       answer = answered 1 0 0;
       cost = cost 3 0 0;
-      left = account 3 9 4 2;
+      left = account 3 9 8 2;
       changes = true;
       lines = copy 3 1 3 0 (0 ∷ 0 ∷ 0 ∷ 0 ∷ []) ∷ [];
       memory = [];
@@ -1948,32 +1966,32 @@ rows =
     -- 21: fetch cycles over f × requests, but not over p × requests
     ∷ session (record {
       setup = cheapFetch;
-      account = account 2 7 4 2;
+      account = account 2 7 8 2;
       before = [];
       requests = read 1 4 ∷ [];
       values = 9 ∷ [];
       answer = answered 0 21 0;
       cost = cost 0 0 0;
-      left = account 2 7 4 2;
+      left = account 2 7 8 2;
       changes = false;
       lines = [];
       memory = [];
     })
-    -- 21: write-back cycles over g × requests, but not over p × requests
+    -- 21: write-back cycles over g × L × requests, but not over p × L × requests
     ∷ session (record {
       setup = cheapFetch;
-      account = account 2 6 5 2;
+      account = account 2 6 9 2;
       before = [];
       requests = read 1 4 ∷ [];
       values = 9 ∷ [];
       answer = answered 0 21 0;
       cost = cost 0 0 0;
-      left = account 2 6 5 2;
+      left = account 2 6 9 2;
       changes = false;
       lines = [];
       memory = [];
     })
-    -- the products are not cut to 32 bits: 32 × 2^27 is 2^32
+    -- the products are not cut to 32 bits: 32 × 2^27 is 2^32, and by two lines 2^33
     ∷ session (record {
       setup = pricedBoard 2 2 2 5 32 32;
       account = account 134217728 4294967295 4294967295 0;
@@ -1987,16 +2005,16 @@ rows =
       lines = [];
       memory = [];
     })
-    -- 21: one over 31 × 2^27
+    -- 21: one over 31 × 2 × 2^26
     ∷ session (record {
       setup = pricedBoard 2 2 2 5 32 31;
-      account = account 134217728 4294967295 4160749569 0;
+      account = account 67108864 2147483648 4160749569 0;
       before = [];
       requests = read 1 2 ∷ [];
       values = 9 ∷ [];
       answer = answered 0 21 0;
       cost = cost 0 0 0;
-      left = account 134217728 4294967295 4160749569 0;
+      left = account 67108864 2147483648 4160749569 0;
       changes = false;
       lines = [];
       memory = [];
@@ -2412,5 +2430,276 @@ rows =
       changes = true;
       lines = copy 1 9 3 0 (0 ∷ 5 ∷ 8 ∷ 0 ∷ []) ∷ copy 9 9 4 0 (0 ∷ 5 ∷ 8 ∷ 0 ∷ []) ∷ copy 25 9 4 0 (0 ∷ 5 ∷ 8 ∷ 0 ∷ []) ∷ [];
       memory = cell 37 5 ∷ cell 38 8 ∷ [];
+    })
+    -- ---- document 02, P6
+    -- two marked blocks and an unmarked one, in lines 0, 7 and 2, are cleared: g for each marked one, whose words memory takes; another's copy stays
+    ∷ session (record {
+      setup = usual;
+      account = account 0 0 0 0;
+      before = write 0 3 7 ∷ write 0 61 5 ∷ write 1 10 6 ∷ read 0 10 ∷ [];
+      requests = clear 0 ∷ [];
+      values = 0 ∷ [];
+      answer = answered 1 0 0;
+      cost = cost 0 8 0;
+      left = account 5 16 8 0;
+      changes = true;
+      lines = copy 10 2 4 0 (0 ∷ 0 ∷ 6 ∷ 0 ∷ []) ∷ [];
+      memory = cell 3 7 ∷ cell 61 5 ∷ cell 10 6 ∷ [];
+    })
+    -- an empty cache is cleared: nothing changes, and another's marked block stays
+    ∷ session (record {
+      setup = usual;
+      account = account 0 0 0 0;
+      before = write 1 39 7 ∷ [];
+      requests = clear 0 ∷ [];
+      values = 0 ∷ [];
+      answer = answered 1 0 0;
+      cost = cost 0 0 0;
+      left = account 2 4 0 0;
+      changes = false;
+      lines = copy 9 9 4 1 (0 ∷ 0 ∷ 0 ∷ 7 ∷ []) ∷ [];
+      memory = [];
+    })
+    -- a shared block is cleared from 0; then 1 writes alone, and marks
+    ∷ session (record {
+      setup = usual;
+      account = account 0 0 0 0;
+      before = read 0 39 ∷ read 1 39 ∷ [];
+      requests = clear 0 ∷ write 1 37 7 ∷ [];
+      values = 0 ∷ 7 ∷ [];
+      answer = answered 2 0 0;
+      cost = cost 0 0 0;
+      left = account 4 8 0 0;
+      changes = true;
+      lines = copy 9 9 4 1 (0 ∷ 7 ∷ 0 ∷ 0 ∷ []) ∷ [];
+      memory = [];
+    })
+    -- the last value is read again after a clear, by the same processor and by another
+    ∷ session (record {
+      setup = usual;
+      account = account 0 0 0 0;
+      before = write 0 37 7 ∷ [];
+      requests = clear 0 ∷ read 0 37 ∷ read 2 37 ∷ [];
+      values = 0 ∷ 7 ∷ 7 ∷ [];
+      answer = answered 3 0 0;
+      cost = cost 8 4 0;
+      left = account 4 12 4 0;
+      changes = true;
+      lines = copy 1 9 4 0 (0 ∷ 7 ∷ 0 ∷ 0 ∷ []) ∷ copy 17 9 4 0 (0 ∷ 7 ∷ 0 ∷ 0 ∷ []) ∷ [];
+      memory = cell 37 7 ∷ [];
+    })
+    -- a second clear finds nothing
+    ∷ session (record {
+      setup = usual;
+      account = account 0 0 0 0;
+      before = write 3 37 7 ∷ clear 3 ∷ [];
+      requests = clear 3 ∷ [];
+      values = 0 ∷ [];
+      answer = answered 1 0 0;
+      cost = cost 0 0 0;
+      left = account 3 4 4 0;
+      changes = false;
+      lines = [];
+      memory = cell 37 7 ∷ [];
+    })
+    -- every line is written back, from an account at its limits; g is not f, and the marked block of the same line elsewhere stays
+    ∷ session (record {
+      setup = dearFetch;
+      account = account 1 5 6 1;
+      before = write 1 8 6 ∷ write 1 3 5 ∷ write 0 5 4 ∷ [];
+      requests = clear 1 ∷ [];
+      values = 0 ∷ [];
+      answer = answered 1 0 0;
+      cost = cost 0 6 0;
+      left = account 5 20 12 1;
+      changes = true;
+      lines = copy 0 2 5 1 (0 ∷ 4 ∷ []) ∷ [];
+      memory = cell 8 6 ∷ cell 3 5 ∷ [];
+    })
+    -- a line's own counter plays no part: a copy that has paid is emptied like a full one
+    ∷ session (record {
+      setup = usual;
+      account = account 0 0 0 0;
+      before = read 0 39 ∷ read 1 39 ∷ write 1 37 7 ∷ [];
+      requests = clear 0 ∷ [];
+      values = 0 ∷ [];
+      answer = answered 1 0 0;
+      cost = cost 0 0 0;
+      left = account 4 8 0 1;
+      changes = true;
+      lines = copy 9 9 4 0 (0 ∷ 7 ∷ 0 ∷ 0 ∷ []) ∷ [];
+      memory = cell 37 7 ∷ [];
+    })
+    -- more lines than blocks
+    ∷ session (record {
+      setup = board 2 7 2 3;
+      account = account 0 0 0 0;
+      before = write 1 5 6 ∷ write 1 1 4 ∷ [];
+      requests = clear 1 ∷ [];
+      values = 0 ∷ [];
+      answer = answered 1 0 0;
+      cost = cost 0 4 0;
+      left = account 3 4 4 0;
+      changes = true;
+      lines = [];
+      memory = cell 5 6 ∷ cell 1 4 ∷ [];
+    })
+    -- 3: processor not below N, and it stops the run; the last one below N was taken
+    ∷ session (record {
+      setup = usual;
+      account = account 0 0 0 0;
+      before = write 3 37 7 ∷ [];
+      requests = clear 3 ∷ clear 4 ∷ read 0 0 ∷ [];
+      values = 0 ∷ 9 ∷ 9 ∷ [];
+      answer = answered 1 3 1;
+      cost = cost 0 4 0;
+      left = account 2 4 4 0;
+      changes = true;
+      lines = [];
+      memory = cell 37 7 ∷ [];
+    })
+    -- 3 before 22
+    ∷ session (record {
+      setup = usual;
+      account = account 1000000 0 0 0;
+      before = [];
+      requests = clear 4 ∷ [];
+      values = 9 ∷ [];
+      answer = answered 0 3 0;
+      cost = cost 0 0 0;
+      left = account 1000000 0 0 0;
+      changes = false;
+      lines = [];
+      memory = [];
+    })
+    -- at 999,999 a clear is taken; then 22
+    ∷ session (record {
+      setup = usual;
+      account = account 999998 0 0 0;
+      before = write 3 37 7 ∷ [];
+      requests = clear 2 ∷ clear 3 ∷ [];
+      values = 0 ∷ 9 ∷ [];
+      answer = answered 1 22 1;
+      cost = cost 0 0 0;
+      left = account 1000000 4 0 0;
+      changes = false;
+      lines = copy 25 9 4 1 (0 ∷ 7 ∷ 0 ∷ 0 ∷ []) ∷ [];
+      memory = [];
+    })
+    -- a clear of the largest cache at the highest price: the account's write-back cycles come to 2,048,000,000, the most that they can be
+    ∷ sessionFrom (markedCache 32 64) [] (record {
+      setup = pricedBoard 1 64 1 64 32 32;
+      account = account 999999 31999968 2047997952 999999;
+      before = [];
+      requests = clear 0 ∷ clear 0 ∷ [];
+      values = 0 ∷ 9 ∷ [];
+      answer = answered 1 22 1;
+      cost = cost 0 2048 0;
+      left = account 1000000 31999968 2048000000 999999;
+      changes = true;
+      lines = [];
+      memory = writtenCells 64;
+    })
+    -- 21: one more
+    ∷ session (record {
+      setup = pricedBoard 1 64 1 1 32 32;
+      account = account 1000000 0 2048000001 0;
+      before = [];
+      requests = clear 0 ∷ [];
+      values = 9 ∷ [];
+      answer = answered 0 21 0;
+      cost = cost 0 0 0;
+      left = account 1000000 0 2048000001 0;
+      changes = false;
+      lines = [];
+      memory = [];
+    })
+    -- a rival completes a clear of an empty cache for nothing: 27 cannot apply
+    ∷ quote (record {
+      setup = small;
+      requests = clear 0 ∷ [];
+      entries = Complete ∷ [];
+      number = 0;
+      place = 0;
+      cost = 0;
+      blocks = 0 ∷ 0 ∷ 0 ∷ 0 ∷ [];
+      held = 0 ∷ 0 ∷ 0 ∷ 0 ∷ [];
+      marks = 0 ∷ 0 ∷ 0 ∷ 0 ∷ [];
+    })
+    -- after a write-back and a drop: f and g, and 0 for the clear
+    ∷ quote (record {
+      setup = dearFetch;
+      requests = write 1 6 5 ∷ clear 1 ∷ [];
+      entries = fetchEntry 1 3 ∷ Complete ∷ writeBackEntry 1 3 ∷ dropEntry 1 3 ∷ Complete ∷ [];
+      number = 0;
+      place = 0;
+      cost = 8;
+      blocks = 0 ∷ 0 ∷ 0 ∷ 0 ∷ [];
+      held = 0 ∷ 0 ∷ 0 ∷ 0 ∷ [];
+      marks = 0 ∷ 0 ∷ 0 ∷ 0 ∷ [];
+    })
+    -- another's cache may hold blocks, and keeps its mark
+    ∷ quote (record {
+      setup = small;
+      requests = write 1 10 5 ∷ clear 0 ∷ [];
+      entries = fetchEntry 1 3 ∷ Complete ∷ Complete ∷ [];
+      number = 0;
+      place = 0;
+      cost = 3;
+      blocks = 0 ∷ 0 ∷ 0 ∷ 3 ∷ [];
+      held = 0 ∷ 0 ∷ 0 ∷ 1 ∷ [];
+      marks = 0 ∷ 0 ∷ 0 ∷ 1 ∷ [];
+    })
+    -- a cleared cache may be filled again at once
+    ∷ quote (record {
+      setup = small;
+      requests = clear 1 ∷ read 1 10 ∷ [];
+      entries = Complete ∷ fetchEntry 1 3 ∷ Complete ∷ [];
+      number = 0;
+      place = 0;
+      cost = 3;
+      blocks = 0 ∷ 0 ∷ 0 ∷ 3 ∷ [];
+      held = 0 ∷ 0 ∷ 0 ∷ 1 ∷ [];
+      marks = 0 ∷ 0 ∷ 0 ∷ 0 ∷ [];
+    })
+    -- 29: the last line holds a block
+    ∷ refusedAt small (clear 1 ∷ []) (fetchEntry 1 3 ∷ Complete ∷ []) 29 1
+    -- 29: line 0 does, and it is block 0
+    ∷ refusedAt small (clear 1 ∷ []) (fetchEntry 1 0 ∷ Complete ∷ []) 29 1
+    -- 29: a marked block, written back but not dropped
+    ∷ refusedAt small (write 0 10 5 ∷ clear 0 ∷ []) (fetchEntry 0 3 ∷ Complete ∷ writeBackEntry 0 3 ∷ Complete ∷ []) 29 3
+    -- 29: one of two blocks is dropped
+    ∷ refusedAt small (clear 0 ∷ []) (fetchEntry 0 2 ∷ fetchEntry 0 3 ∷ dropEntry 0 3 ∷ Complete ∷ dropEntry 0 2 ∷ []) 29 3
+    -- 29 before 28
+    ∷ refusedAt small (clear 1 ∷ clear 1 ∷ []) (fetchEntry 1 3 ∷ Complete ∷ []) 29 1
+    -- 9: a clear of an empty cache by broadcast
+    ∷ refusedAt small (clear 1 ∷ []) (CompleteByBroadcast ∷ []) 9 0
+    -- 9 before 29
+    ∷ refusedAt small (clear 1 ∷ []) (fetchEntry 1 3 ∷ CompleteByBroadcast ∷ []) 9 1
+    -- 3 before 9
+    ∷ refusedAt small (clear 2 ∷ []) (CompleteByBroadcast ∷ []) 3 0
+    -- 3 at a clear completed plainly
+    ∷ refusedAt small (clear 2 ∷ []) (Complete ∷ []) 3 0
+    -- 26 after a clear
+    ∷ refusedAt small (clear 0 ∷ []) (Complete ∷ Complete ∷ []) 26 1
+    -- 28: a clear is left
+    ∷ refusedAt small (clear 0 ∷ []) [] 28 0
+    -- a marked block cleared, g equal to f: write-back cycles are all of the schedule's fetch plus update cycles
+    ∷ split (record {
+      setup = pricedBoard 1 1 2 3 4 4;
+      requests = write 0 0 4 ∷ clear 0 ∷ write 0 2 5 ∷ clear 0 ∷ [];
+      entries = fetchEntry 0 0 ∷ Complete ∷ writeBackEntry 0 0 ∷ dropEntry 0 0 ∷ Complete ∷ fetchEntry 0 1 ∷ Complete ∷ writeBackEntry 0 1 ∷ dropEntry 0 1 ∷ Complete ∷ [];
+      spends = cost 8 8 0;
+      pays = cost 8 8 0;
+      sum = 8;
+    })
+    -- a schedule that leaves no mark has nothing to write back
+    ∷ split (record {
+      setup = dearFetch;
+      requests = write 0 2 4 ∷ clear 0 ∷ [];
+      entries = fetchEntry 0 1 ∷ CompleteByBroadcast ∷ dropEntry 0 1 ∷ Complete ∷ [];
+      spends = cost 5 3 0;
+      pays = cost 5 0 1;
+      sum = 6;
     })
     ∷ []

@@ -31,6 +31,7 @@ in-range-fits s e prices =
     let g = both-true (leb 1 (s .«write_back_price»)) (leb (s .«write_back_price») (s .«fetch_price»)) (fg .1) in
     let few = leb-true (s .«fetch_price») priceLimit (f .1) in
     let cheaper = leb-true (s .«write_back_price») (s .«fetch_price») (g .1) in
+    let low : s .«write_back_price» ≤ priceLimit = omega (arith, few, cheaper) in
     record {
       some-processor = leb-true _ _ (n .0);
       few-processors = leb-true _ _ (n .1);
@@ -44,7 +45,7 @@ in-range-fits s e prices =
       few-fetch = few;
       some-write-back = leb-true _ _ (g .0);
       write-back-le-fetch = cheaper;
-      few-write-back = omega (arith, few, cheaper);
+      few-write-back = mul-le-mul low (leb-true (s .lines) 64 (l .1));
     }
 
 pub setup-fits : (s : Setup) → setupRefusal s ≡ noRefusal → Fits s

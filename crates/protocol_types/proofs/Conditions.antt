@@ -1,6 +1,6 @@
 -- Laws of the conditions of a request: what they let through, and that it is let through.
 use Prim.Native.Nat.{ℕ, _<_}
-use mathlib.Core.Path.{_≡_}
+use mathlib.Core.Path.{_≡_, refl}
 use mathlib.Core.Bool.{cond}
 use native.Mathlib.Omega.{arith}
 use lib.Dec.{ltb}
@@ -12,7 +12,7 @@ use Rattle.protocol_types.specs.declared.Setup.{Setup}
 use Rattle.protocol_types.specs.declared.Variable.{Variable}
 use Rattle.protocol_types.specs.declared.Request.{Request}
 use Rattle.protocol_types.specs.declared.Operation.{Operation}
-use Rattle.protocol_types.specs.declared.Operation.the-variants.{Read, Write}
+use Rattle.protocol_types.specs.declared.Operation.the-variants.{Read, Write, Clear}
 use Rattle.protocol_types.proofs.Laws.{choice, chosen-zero}
 
 -- ---- 3, 4 and 22
@@ -34,14 +34,17 @@ module _ (s : Setup) (v : Variable) (n : ℕ) where
 pub named-passed : (s : Setup) (o : Operation) (n : ℕ) → namedRefusal s o n ≡ 0 → Named s o × (n ≡ 0)
 named-passed s (Read v) n e = variable-passed s v n e
 named-passed s (Write v x) n e = variable-passed s v n e
+named-passed s Clear n e = (tt, e)
 
 pub named-passes : (s : Setup) (o : Operation) (n : ℕ) → Named s o → namedRefusal s o n ≡ n
 named-passes s (Read v) n h = variable-passes s v n h
 named-passes s (Write v x) n h = variable-passes s v n h
+named-passes s Clear n h = refl
 
 pub named-choice : (Q : ℕ → Type 0) (s : Setup) (o : Operation) (n : ℕ) → Q n → Q noSuchVariable → Q (namedRefusal s o n)
 named-choice Q s (Read v) n p q = variable-choice s v n Q p q
 named-choice Q s (Write v x) n p q = variable-choice s v n Q p q
+named-choice Q s Clear n p q = p
 
 -- a request that 3 and 4 let through, n being the number after them
 pub valid-passed : (s : Setup) (q : Request) (n : ℕ) → cond (ltb (q .processor) (s .processors)) (namedRefusal s (q .operation) n) noSuchProcessor ≡ 0

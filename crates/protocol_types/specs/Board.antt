@@ -44,9 +44,13 @@ fetchPrice s = s .«fetch_price»
 unfoldable pub writeBackPrice : Setup → ℕ
 writeBackPrice s = s .«write_back_price»
 
--- the most write-back cycles of one request
+-- the most write-back cycles of one request, g × L: a clear that finds every line marked (document 02, P6)
 unfoldable pub mostWriteBack : Setup → ℕ
-mostWriteBack s = writeBackPrice s
+mostWriteBack s = writeBackPrice s * s .lines
+
+-- the highest such number: the highest price, and 64 lines
+abbrev pub mostWriteBackLimit : ℕ
+mostWriteBackLimit = 2048
 
 -- a setup that is not refused, as facts
 pub record Fits (s : Setup) : Type 0 where
@@ -62,7 +66,7 @@ pub record Fits (s : Setup) : Type 0 where
   pub few-fetch : fetchPrice s ≤ priceLimit
   pub some-write-back : 1 ≤ writeBackPrice s
   pub write-back-le-fetch : writeBackPrice s ≤ fetchPrice s
-  pub few-write-back : mostWriteBack s ≤ priceLimit
+  pub few-write-back : mostWriteBack s ≤ mostWriteBackLimit
 
 -- ---- variables and blocks
 

@@ -9,14 +9,15 @@ use Rattle.protocol_types.specs.declared.Setup.{Setup}
 use Rattle.protocol_types.specs.declared.Variable.{Variable}
 use Rattle.protocol_types.specs.declared.Request.{Request}
 use Rattle.protocol_types.specs.declared.Operation.{Operation}
-use Rattle.protocol_types.specs.declared.Operation.the-variants.{Read, Write}
+use Rattle.protocol_types.specs.declared.Operation.the-variants.{Read, Write, Clear}
 
 -- ---- what a request names
 
--- the operation's variable is below M × p
+-- the variable that the operation names is below M × p; a clear names none
 abbrev pub Named : Setup → Operation → Type 0
 Named s (Read v) = v .0 < variables s
 Named s (Write v x) = v .0 < variables s
+Named s Clear = Unit {0}
 
 -- a request that 3 and 4 let through
 pub record Valid (s : Setup) (q : Request) : Type 0 where
@@ -37,10 +38,11 @@ requestLimit = 1000000
 unfoldable pub variableRefusal : Setup → Variable → ℕ → ℕ
 variableRefusal s v n = unless (ltb (v .0) (variables s)) noSuchVariable n
 
--- of an operation that names a variable
+-- of an operation; a clear "names no variable, so 4 … cannot apply" (document 02, P6)
 abbrev pub namedRefusal : Setup → Operation → ℕ → ℕ
 namedRefusal s (Read v) n = variableRefusal s v n
 namedRefusal s (Write v x) n = variableRefusal s v n
+namedRefusal s Clear n = n
 
 unfoldable pub requestRefusal : Setup → ℕ → Request → ℕ
 requestRefusal s n q =

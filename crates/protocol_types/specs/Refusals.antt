@@ -43,7 +43,7 @@ tooMany = 5
 abbrev pub malformedLine : ℕ
 malformedLine = 6
 
--- 7: trace label a digit above 2
+-- 7: trace label a digit above 2 other than 4 (document 02, P6)
 abbrev pub unknownLabel : ℕ
 unknownLabel = 7
 
@@ -51,9 +51,9 @@ unknownLabel = 7
 abbrev pub noSuchBlock : ℕ
 noSuchBlock = 8
 
--- 9: a read completed by broadcast
-abbrev pub readByBroadcast : ℕ
-readByBroadcast = 9
+-- 9: a read or a clear (document 02, P6) completed by broadcast
+abbrev pub broadcastWithoutWrite : ℕ
+broadcastWithoutWrite = 9
 
 -- 10: fetch price or write-back price out of range (document 02, P1)
 abbrev pub priceOutOfRange : ℕ
@@ -91,10 +91,14 @@ dropOfMarked = 25
 abbrev pub noRequestLeft : ℕ
 noRequestLeft = 26
 
--- 27: completion, block not held
+-- 27: completion of a read or a write, block not held
 abbrev pub completionNotHeld : ℕ
 completionNotHeld = 27
 
 -- 28: schedule ends with requests left
 abbrev pub requestsLeft : ℕ
 requestsLeft = 28
+
+-- 29: completing a clear while that cache holds a block (document 02, P6)
+abbrev pub cacheNotEmpty : ℕ
+cacheNotEmpty = 29

@@ -1,7 +1,7 @@
 // The types of the board, the engine and the rival, the refusal numbers, and the methods of a setup. The rules are in protocol.
 ghost use mathlib.Core.Path.{_≡_};
 ghost use Prim.Native.Nat.{_*_, _<_};
-ghost use Rattle.protocol_types.specs.Board.{within, sizesInRange, pricesInRange, setupRefusal, fetchPrice, writeBackPrice, mostWriteBack, Fits, variables, blockOf, offsetOf, lineOf, slots, Placed};
+ghost use Rattle.protocol_types.specs.Board.{within, sizesInRange, pricesInRange, setupRefusal, fetchPrice, writeBackPrice, mostWriteBack, Fits, variables, blockOf, offsetOf, lineOf, slots, lineSlot, Placed};
 ghost use Rattle.protocol_types.specs.Conditions.{variableRefusal, namedRefusal, requestRefusal};
 
 // The refusal numbers.
@@ -23,7 +23,7 @@ pub const UNKNOWN_LABEL: u32 = 7;
 
 pub const NO_SUCH_BLOCK: u32 = 8;
 
-pub const READ_BY_BROADCAST: u32 = 9;
+pub const BROADCAST_WITHOUT_WRITE: u32 = 9;
 
 pub const PRICE_OUT_OF_RANGE: u32 = 10;
 
@@ -46,6 +46,8 @@ pub const NO_REQUEST_LEFT: u32 = 26;
 pub const COMPLETION_NOT_HELD: u32 = 27;
 
 pub const REQUESTS_LEFT: u32 = 28;
+
+pub const CACHE_NOT_EMPTY: u32 = 29;
 
 // The most requests that an account or the pricer takes, and the generator makes.
 pub const REQUEST_LIMIT: u32 = 1000000;
@@ -133,11 +135,12 @@ impl Setup {
         self.write_back_price
     }
 
-    // The most write-back cycles of one request.
+    // The most write-back cycles of one request: every line of a cache is written back.
     pub fn most_write_back(self) -> u32
+        requires { ⌜ Fits self ⌝ }
         ensures { λ r. ⌜ r ≡ mostWriteBack self ⌝ }
     {
-        self.write_back_price()
+        self.write_back_price() * self.lines
     }
 
     // The block in which a variable lies.
@@ -164,6 +167,16 @@ impl Setup {
         block.0 % self.lines
     }
 
+    // The slot of a line of a processor's cache.
+    pub fn line_slot(self, processor: u32, line: u32) -> usize
+        requires { ⌜ Fits self ⌝ }
+        requires { ⌜ (processor < self .processors) × (line < self .lines) ⌝ }
+        ensures { λ r. ⌜ r ≡ lineSlot self processor line ⌝ }
+        ensures { λ r. ⌜ r < slots self ⌝ }
+    {
+        (processor * self.lines + line) as usize
+    }
+
     // The only slot of a processor where a block may stand.
     pub fn slot(self, processor: u32, block: Block) -> usize
         requires { ⌜ Fits self ⌝ }
@@ -171,7 +184,7 @@ impl Setup {
         ensures { λ r. ⌜ Placed self processor block r ⌝ }
     {
         let line = self.line_of(block);
-        (processor * self.lines + line) as usize
+        self.line_slot(processor, line)
     }
 
     // The slots: one for each line of each cache.
@@ -210,7 +223,7 @@ impl Setup {
         NO_SUCH_VARIABLE
     }
 
-    // 4 if the operation's variable is not below M × p, else `next`.
+    // 4 if the operation names a variable that is not below M × p, else `next`.
     pub fn named_refusal(self, operation: Operation, next: u32) -> u32
         requires { ⌜ Fits self ⌝ }
         ensures { λ r. ⌜ r ≡ namedRefusal self operation next ⌝ }
@@ -218,6 +231,7 @@ impl Setup {
         match operation {
             Operation::Read(v) => self.variable_refusal(v, next),
             Operation::Write(v, _) => self.variable_refusal(v, next),
+            Operation::Clear => next,
         }
     }
 
@@ -237,9 +251,11 @@ impl Setup {
     }
 }
 
+// A clear empties the processor's cache; it names no variable.
 pub enum Operation {
     Read(Variable),
     Write(Variable, u32),
+    Clear,
 }
 
 // What one processor asks for.

@@ -9,6 +9,9 @@ returns c = rw (c .before .before .operation .given .1) (c .variable-refusal .en
 returns-2 : tie.Need-returns-2
 returns-2 c = rw (c .before .before .operation2 .given .1) (c .variable-refusal2 .ensures)
 
+returns-3 : tie.Need-returns-3
+returns-3 c = search needs
+
 pub named-refusal-spec : {M : Type 1} → statement M
 named-refusal-spec =
     tie.close
@@ -17,5 +20,7 @@ named-refusal-spec =
     (λ c κs. search needs)
     (λ c. search needs)
     (λ c κs. search needs)
+    (λ c. search needs)
     returns
-    returns-2)
+    returns-2
+    returns-3)
