@@ -1,5 +1,5 @@
 -- Every legal schedule pays for what the engine is charged, for any potential.
-use Prim.Native.Nat.{ℕ, _+_, _-_, _≤_, _<_}
+use Prim.Native.Nat.{ℕ, zero, suc, _+_, _-_, _≤_, _<_}
 use mathlib.Core.Path.{_≡_, refl, sym, ap, _∙_}
 use mathlib.Core.Logic.{_≢_}
 use mathlib.Core.Bool.{Bool, true, false, cond, true≢false}
@@ -11,29 +11,29 @@ use lib.Dec.{ltb, eqb}
 use borrow.Author.Tests.{eqb-true, eq-eqb}
 use Rattle.protocol_types.specs.Lists.{at}
 use Rattle.protocol_types.specs.Refusals.{noRefusal, lineInUse, blockNotHeld, dropOfMarked}
-use Rattle.protocol_types.specs.Board.{Fits, slots, slot, blockOf, offsetOf, fetchPrice}
+use Rattle.protocol_types.specs.Board.{Fits, slots, lineSlot, slot, blockOf, offsetOf, fetchPrice}
 use Rattle.protocol.specs.Tables.{Tables, Sized, counter, block, holdsAt, holds, sharing, marked}
 use Rattle.protocol.specs.Soundness.{Sound}
-use Rattle.protocol.specs.Rules.{writtenBack, emptied, filled, saved, evicted, owner, released, fetched, obtained, payer, writtenAlone, broadcast, charged, written}
+use Rattle.protocol.specs.Rules.{writtenBack, emptied, filled, saved, evicted, owner, released, fetched, obtained, payer, writtenAlone, broadcast, charged, written, cleared}
 use Rattle.protocol_types.specs.Conditions.{Named}
 use Rattle.protocol.specs.Requests.{servedBy, served}
 use Rattle.protocol.specs.Accounts.{fetchAndUpdate}
-use Rattle.protocol.specs.Rival.{Rival, RivalSized, keepsAt, keeps, shared, rivalFetched, rivalWrittenBack, rivalDropped, rivalCompleted, completionBy, completionCycles, Legal, costs}
+use Rattle.protocol.specs.Rival.{Rival, RivalSized, keepsAt, keeps, shared, emptyCache, rivalFetched, rivalWrittenBack, rivalDropped, rivalCompleted, completionBy, completionCycles, Legal, costs}
 use Rattle.protocol_types.specs.declared.Setup.{Setup}
 use Rattle.protocol_types.specs.declared.Variable.{Variable}
 use Rattle.protocol_types.specs.declared.Block.{Block}
 use Rattle.protocol_types.specs.declared.Request.{Request}
 use Rattle.protocol_types.specs.declared.Operation.{Operation}
-use Rattle.protocol_types.specs.declared.Operation.the-variants.{Read, Write}
+use Rattle.protocol_types.specs.declared.Operation.the-variants.{Read, Write, Clear}
 use Rattle.protocol_types.specs.declared.Entry.{Entry}
 use Rattle.protocol_types.specs.declared.Entry.the-variants.{Fetch, WriteBack, Drop, Complete, CompleteByBroadcast}
-use Rattle.protocol_types.proofs.Laws.{Known, sure, not-so, known, choice, chosen-zero, agree, both-true, and-true, other-some, at-set-same, at-set-other, at-set-zero}
-use Rattle.protocol_types.proofs.Board.{block-path, block-number, slot-lt, slot-inj, offset-lt, block-lt}
+use Rattle.protocol_types.proofs.Laws.{Known, sure, not-so, known, choice, chosen-zero, agree, both-true, and-true, other-some, all-true, at-set-same, at-set-other, at-set-zero}
+use Rattle.protocol_types.proofs.Board.{block-path, block-number, lineSlot-lt, slot-lt, slot-inj, offset-lt, block-lt}
 use Rattle.protocol.proofs.Holding.{holdsAt-false, holder-slot, payer-below, payer-found}
 use Rattle.protocol.proofs.Lengths.{block-stored, counter-stored, sized-evicted, sized-released, sized-broadcast}
 use Rattle.protocol.proofs.Rival.{move-legal, Completable, Completion, completion-legal, sized-played}
 use Rattle.competitive.proofs.Sums.{sum, sum-one}
-use Rattle.competitive.proofs.StepSound.{sound-obtained, obtained-holds, sound-served}
+use Rattle.competitive.proofs.StepSound.{sound-cleared, sound-obtained, obtained-holds, sound-served}
 use Rattle.competitive.proofs.Potential.{Potential}
 
 -- ---- the rival's copies
@@ -131,6 +131,11 @@ pub true-keepsAt : (r : Rival) (k : ℕ) (b : Block) → held r k ≡ 1 → copy
 unfolding keepsAt
 true-keepsAt r k b h e = and-true (eq-eqb _ _ h) (eq-eqb _ _ e)
 
+-- each line of an empty cache
+pub empty-cache-line : (s : Setup) (r : Rival) (i : ℕ) → emptyCache s r i ≡ true → (l : ℕ) → l < s .lines → held r (lineSlot s i l) ≡ 0
+unfolding emptyCache
+empty-cache-line s r i e l h = eqb-true _ _ (all-true (s .lines) (λ l. eqb (held r (lineSlot s i l)) 0) e l h)
+
 -- a second copy makes the block shared
 pub shared-some : (s : Setup) (r : Rival) (i j : ℕ) (b : Block) → j < s .processors → j ≢ i → keepsAt r (slot s j b) b ≡ true → shared s r i b ≡ true
 unfolding shared keeps
@@ -146,9 +151,15 @@ obtainedWeight F W s t i b = cond (holds s t i b) 0 (F + cond (marked t (slot s 
 unfoldable pub writtenWeight : ℕ → Setup → Tables → ℕ → Block → ℕ
 writtenWeight U s t i b = cond (sharing s t i b) U 0
 
+-- W for each write-back of a clear's first n lines
+abbrev pub clearedWeight : ℕ → Setup → Tables → ℕ → ℕ → ℕ
+clearedWeight W s t i zero = 0
+clearedWeight W s t i (suc n) = clearedWeight W s t i n + cond (marked (cleared s t i n) (lineSlot s i n)) W 0
+
 abbrev pub weightBy : ℕ → ℕ → ℕ → Setup → Tables → ℕ → Operation → ℕ
 weightBy F W U s t i (Read v) = obtainedWeight F W s t i (blockOf s v)
 weightBy F W U s t i (Write v x) = obtainedWeight F W s t i (blockOf s v) + writtenWeight U s (obtained s t i (blockOf s v)) i (blockOf s v)
+weightBy F W U s t i Clear = clearedWeight W s t i (s .lines)
 
 unfoldable pub weight : ℕ → ℕ → ℕ → Setup → Tables → Request → ℕ
 weight F W U s t q = weightBy F W U s t (q .processor) (q .operation)
@@ -303,6 +314,28 @@ module _ (s : Setup) (ok : Fits s) (F W U : ℕ) (ψ : ℕ → ℕ → ℕ → �
         go true c = shared-case t sd r i b hi kp o x u e c hu
         go false c = alone-case t sd r i b hi kp o x u e
 
+  -- a slot that the rival has empty is emptied
+  evicted-bound : (t : Tables) (sd : Sound s t) (r : Rival) (k : ℕ) → k < slots s → held r k ≡ 0
+      → total ψ s (evicted s t k) r + cond (marked t k) W 0 ≤ total ψ s t r + 0
+  unfolding marked
+  evicted-bound t sd r k hk e =
+      engine-move t (evicted s t k) r k (cond (marked t k) W 0) 0 hk (evicted-counter s t k) (evicted-block s t k)
+      (rw (evicted-zero s t k, e)
+      (choice (λ z. ψ 0 (block (evicted s t k) k .0) 0 (copy r k) + z ≤ ψ (counter t k) (block t k .0) 0 (copy r k) + 0) (marked t k)
+      (λ c. omega (arith, P .empty-marked (counter t k) (block t k .0) (block (evicted s t k) k .0) (copy r k) (sd .line k hk .full (eqb-true _ _ c))))
+      (λ c. omega (arith, P .empty (counter t k) (block t k .0) (block (evicted s t k) k .0) (copy r k)))))
+
+  -- and so is a whole cache
+  cleared-bound : (t : Tables) (sd : Sound s t) (r : Rival) (i n : ℕ) → i < s .processors → n ≤ s .lines
+      → ((l : ℕ) → l < s .lines → held r (lineSlot s i l) ≡ 0) → total ψ s (cleared s t i n) r + clearedWeight W s t i n ≤ total ψ s t r
+  cleared-bound t sd r i zero hi hn e = omega arith
+  cleared-bound t sd r i (suc n) hi hn e =
+      omega (
+        arith,
+        cleared-bound t sd r i n hi (omega arith) e,
+        evicted-bound (cleared s t i n) (sound-cleared s ok t sd i n hi (omega arith)) r (lineSlot s i n) (lineSlot-lt s ok i n hi hn) (e n hn),
+      )
+
   -- a shared write is paid for
   shared-pays : (r : Rival) (i : ℕ) (v : Variable) (a : Bool) → shared s r i (blockOf s v) ≡ true
       → 1 ≤ cond a 1 (cond (shared s r i (blockOf s v)) 1 0)
@@ -321,6 +354,7 @@ module _ (s : Setup) (ok : Fits s) (F W U : ℕ) (ψ : ℕ → ℕ → ℕ → �
         written-bound (obtained s t i b) (sound-obtained s ok t sd i b hi (block-lt s ok v n)) r i b hi kp (offsetOf s v) x
             (completionBy s r i (Write v x) a) (offset-lt s ok v) (obtained-holds s ok t sd i b hi) (shared-pays r i v a),
       )
+  servedBy-bound t sd r i Clear a hi n em = omega (arith, cleared-bound t sd r i (s .lines) hi (le-refl _) (empty-cache-line s r i em))
 
   served-bound : (t : Tables) (sd : Sound s t) (r : Rival) (q : Request) (a : Bool) → Completion s r q
       → total ψ s (served s t q) r + weight F W U s t q ≤ total ψ s t r + completionCycles s r q a

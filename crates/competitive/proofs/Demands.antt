@@ -4,6 +4,8 @@ use Rattle.protocol_types.specs.Refusals.{noRefusal}
 use Rattle.protocol_types.specs.Board.{setupRefusal}
 use Rattle.competitive.specs.Claims.{Demands}
 use Rattle.protocol_types.specs.declared.Setup.{Setup}
+use Rattle.protocol_types.proofs.Board.{setup-fits}
+use Rattle.competitive.proofs.Clears.{cleared-right}
 use Rattle.competitive.proofs.Claim.{split-claim, claim-of}
 use Rattle.competitive.proofs.CostKinds.{cost-kinds}
 use Rattle.competitive.proofs.Tight.{tight-list}
@@ -15,6 +17,7 @@ use Rattle.competitive.proofs.EngineSchedule.{runs-rival}
 pub demands : (s : Setup) → setupRefusal s ≡ noRefusal → Demands s
 demands s accepted = record {
   last-values = last-values s accepted;
+  cleared-right = λ t sd i hi. cleared-right s (setup-fits s accepted) t sd i hi;
   judged-right = judged-right s;
   priced-right = priced-right s;
   demand3 = record {

@@ -1,46 +1,48 @@
 -- The engine is one of the rivals: its own actions are a legal schedule, at its own bill, and leave its own copies.
-use Prim.Native.Nat.{ℕ, zero, suc, _+_, _-_, _/_, _*_, _<_}
+use Prim.Native.Nat.{ℕ, zero, suc, _+_, _-_, _/_, _*_, _≤_, _<_}
 use mathlib.Core.Path.{_≡_, refl, sym, ap, _∙_, subst}
 use mathlib.Core.Logic.{_≢_}
 use mathlib.Core.Bool.{Bool, true, false, _&&_, cond, true≢false}
 use mathlib.Core.List.{List, [], _∷_, _++_, append-assoc, map}
 use native.Mathlib.Omega.{arith}
+use native.Mathlib.Nat.{le-refl}
 use lib.ListN.{set, List·getD-map}
 use lib.Seq.{set-getD, map-set-same, ext-getD}
 use lib.Dec.{ltb, eqb}
-use borrow.Author.Tests.{ltb-true, lt-ltb, eqb-true, eqb-false}
+use borrow.Author.Tests.{ltb-true, lt-ltb, eqb-true, eqb-false, eq-eqb}
 use Rattle.protocol_types.specs.Lists.{at, zeros, other}
 use Rattle.protocol_types.specs.Refusals.{noRefusal}
-use Rattle.protocol_types.specs.Board.{Fits, setupRefusal, variables, slots, slot, lineOf, blockOf, offsetOf, fetchPrice, writeBackPrice}
+use Rattle.protocol_types.specs.Board.{Fits, setupRefusal, variables, slots, lineSlot, slot, lineOf, blockOf, offsetOf, fetchPrice, writeBackPrice}
 use Rattle.protocol.specs.Tables.{Tables, tables, fresh, counter, block, mark, holdsAt, holds, sharing, marked}
 use Rattle.protocol.specs.Soundness.{Sound}
-use Rattle.protocol.specs.Rules.{writtenBack, emptied, filled, saved, saveCycles, evicted, owner, released, fetched, obtained, fetchCycles, writeBackCycles, payer, writtenAlone, broadcast, charged, written, updateCycles}
+use Rattle.protocol.specs.Rules.{writtenBack, emptied, filled, saved, saveCycles, evicted, owner, released, fetched, obtained, fetchCycles, writeBackCycles, payer, writtenAlone, broadcast, charged, written, updateCycles, cleared, clearCycles}
 use Rattle.protocol_types.specs.Conditions.{Named, Valid, AllValid}
 use Rattle.protocol.specs.Requests.{servedBy, served, billBy, bill}
 use Rattle.protocol.specs.Accounts.{nothing, plus}
 use Rattle.protocol.specs.Engines.{Run, takenAll, servedAll, spent}
 use Rattle.protocol.specs.Runs.{engine}
-use Rattle.protocol.specs.Rival.{Rival, rival, noCopies, keepsAt, keeps, shared, unmarked, rivalFetched, rivalWrittenBack, rivalDropped, rivalCompleted, completionCycles, played, left, cost, refusal, moveRefusal, Legal, costs, lastCopies}
-use Rattle.competitive.specs.EngineSchedule.{saving, evicting, obtaining, paying, servingBy, serving, engineSchedule, EngineIsRival}
+use Rattle.protocol.specs.Rival.{Rival, rival, noCopies, keepsAt, keeps, shared, emptyCache, unmarked, rivalFetched, rivalWrittenBack, rivalDropped, rivalCompleted, completionCycles, played, left, cost, refusal, moveRefusal, Legal, costs, lastCopies}
+use Rattle.competitive.specs.EngineSchedule.{saving, evicting, obtaining, paying, clearing, servingBy, serving, engineSchedule, EngineIsRival}
 use Rattle.protocol_types.specs.declared.Setup.{Setup}
 use Rattle.protocol_types.specs.declared.Variable.{Variable}
 use Rattle.protocol_types.specs.declared.Block.{Block}
 use Rattle.protocol_types.specs.declared.Request.{Request}
 use Rattle.protocol_types.specs.declared.Operation.{Operation}
-use Rattle.protocol_types.specs.declared.Operation.the-variants.{Read, Write}
+use Rattle.protocol_types.specs.declared.Operation.the-variants.{Read, Write, Clear}
 use Rattle.protocol_types.specs.declared.Bill.{Bill}
 use Rattle.protocol_types.specs.declared.Entry.{Entry}
 use Rattle.protocol_types.specs.declared.Entry.the-variants.{Fetch, WriteBack, Drop, Complete}
-use Rattle.protocol_types.proofs.Laws.{Same, same, apart, same?, Under, under, over, under?, Known, sure, not-so, known, choice, at-set-other, at-set-zero}
+use Rattle.protocol_types.proofs.Laws.{Same, same, apart, same?, Under, under, over, under?, Known, sure, not-so, known, choice, true-all, at-set-other, at-set-zero}
 use Rattle.protocol_types.proofs.Board.{block-path, block-number, setup-fits, row-lt, row-mod, line-lt, slot-lt, slot-inj, processor-lt, offset-lt, block-lt}
 use Rattle.protocol.proofs.Holding.{holdsAt-true, true-holdsAt, holder-slot, payer-below, payer-found, owner-found}
 use Rattle.protocol.proofs.Engines.{all-valid}
 use Rattle.protocol.proofs.Accounts.{bill-path}
 use Rattle.protocol.proofs.Rival.{legal-completion, length-unmarked}
 use Rattle.competitive.proofs.Sound.{sound-writtenBack}
-use Rattle.competitive.proofs.StepSound.{marked-holds, placed, sound-evicted, sound-released, released-unmarked, sound-obtained, obtained-holds, shared-facts, sound-served}
+use Rattle.competitive.proofs.StepSound.{marked-holds, placed, sound-evicted, sound-cleared, sound-released, released-unmarked, sound-obtained, obtained-holds, shared-facts, sound-served}
 use Rattle.competitive.proofs.Fresh.{sound-fresh}
 use Rattle.competitive.proofs.Bound.{released-counters, released-blocks, evicted-zero}
+use Rattle.competitive.proofs.Clears.{cleared-zero}
 use Rattle.competitive.proofs.Lawful.{lawful}
 use Rattle.competitive.proofs.Tight.{rival-path}
 
@@ -377,6 +379,30 @@ written-leads s ok t sd i v x qs hi n hd = go (sharing s t i b) refl
         (paying-leads s ok t sd qs i b o x hi (offset-lt s ok v) hd l)
     go false l = alone-leads s ok t i v x qs hi n hd l
 
+-- ---- a cache is cleared
+
+-- each line that it empties has no copy then
+cleared-empty : (s : Setup) (t : Tables) (i : ℕ) → emptyCache s (mirrored (cleared s t i (s .lines))) i ≡ true
+unfolding emptyCache
+cleared-empty s t i =
+    let t′ : Tables = cleared s t i (s .lines) in
+    true-all (s .lines) (λ l. eqb (at (map on (t′ .counters)) (lineSlot s i l)) 0)
+    (λ l h. eq-eqb _ _ (at-held (t′ .counters) (lineSlot s i l) ∙ ap on (cleared-zero s t i (s .lines) l h)))
+
+clearing-leads : (s : Setup) (ok : Fits s) (t : Tables) (sd : Sound s t) (qs : List Request) (i n : ℕ) → i < s .processors → n ≤ s .lines
+    → Leads s (mirrored t) qs (clearing s t i n) (mirrored (cleared s t i n)) qs (cost3 0 (clearCycles s t i n) 0)
+clearing-leads s ok t sd qs i zero hi hn = leads-none s (mirrored t) qs
+clearing-leads s ok t sd qs i (suc n) hi hn =
+    leads-on s _ (bill-path (omega arith) (omega arith) (omega arith)) (clearing-leads s ok t sd qs i n hi (omega arith))
+    (evicting-leads s ok (cleared s t i n) (sound-cleared s ok t sd i n hi (omega arith)) qs i n (lineSlot s i n) hi hn refl)
+
+clear-leads : (s : Setup) (t : Tables) (i : ℕ) (qs : List Request) → i < s .processors → emptyCache s (mirrored t) i ≡ true
+    → Leads s (mirrored t) (asks i Clear ∷ qs) (Complete ∷ []) (mirrored t) qs nothing
+unfolding rivalCompleted completionCycles
+clear-leads s t i qs hi e =
+    leads-one s (mirrored t) (asks i Clear ∷ qs) Complete (mirrored t) nothing
+    (legal-completion s (mirrored t) (asks i Clear) (record { processor = hi; operation = tt }) e) refl refl
+
 -- ---- a request, and a list of them
 
 servingBy-leads : (s : Setup) (ok : Fits s) (t : Tables) (sd : Sound s t) (i : ℕ) (o : Operation) (qs : List Request) → i < s .processors → Named s o
@@ -389,6 +415,9 @@ servingBy-leads s ok t sd i (Write v x) qs hi n =
     let b : Block = blockOf s v in
     leads-on s _ (bill-path (omega arith) (omega arith) (omega arith)) (obtaining-leads s ok t sd (asks i (Write v x) ∷ qs) i b hi (block-lt s ok v n))
     (written-leads s ok (obtained s t i b) (sound-obtained s ok t sd i b hi (block-lt s ok v n)) i v x qs hi n (obtained-holds s ok t sd i b hi))
+servingBy-leads s ok t sd i Clear qs hi n =
+    leads-on s _ (bill-path (omega arith) (omega arith) (omega arith)) (clearing-leads s ok t sd (asks i Clear ∷ qs) i (s .lines) hi (le-refl _))
+    (clear-leads s (cleared s t i (s .lines)) i qs hi (cleared-empty s t i))
 
 serving-leads : (s : Setup) (ok : Fits s) (t : Tables) (sd : Sound s t) (q : Request) (qs : List Request) → Valid s q
     → Leads s (mirrored t) (q ∷ qs) (serving s t q) (mirrored (served s t q)) qs (bill s t q)

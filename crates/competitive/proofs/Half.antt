@@ -1,12 +1,12 @@
 -- Theorem 4.2 of source document 000, over one list of requests from fresh tables.
-use Prim.Native.Nat.{ℕ, _+_, _≤_}
-use mathlib.Core.Path.{_≡_, refl}
+use Prim.Native.Nat.{ℕ, zero, suc, _+_, _≤_}
+use mathlib.Core.Path.{_≡_, refl, ap}
 use mathlib.Core.Bool.{Bool, true, false, cond}
 use mathlib.Core.List.{List, [], _∷_}
 use native.Mathlib.Omega.{arith}
-use Rattle.protocol_types.specs.Board.{Fits, slots, slot, blockOf, fetchPrice, writeBackPrice}
+use Rattle.protocol_types.specs.Board.{Fits, slots, lineSlot, slot, blockOf, fetchPrice, writeBackPrice}
 use Rattle.protocol.specs.Tables.{Tables, fresh, holds, sharing, marked}
-use Rattle.protocol.specs.Rules.{saveCycles, obtained, fetchCycles, writeBackCycles, updateCycles}
+use Rattle.protocol.specs.Rules.{saveCycles, obtained, fetchCycles, writeBackCycles, updateCycles, cleared, clearCycles}
 use Rattle.protocol.specs.Requests.{served, billBy, bill}
 use Rattle.protocol.specs.Accounts.{fetchAndUpdate}
 use Rattle.protocol.specs.Engines.{spent}
@@ -17,14 +17,14 @@ use Rattle.protocol_types.specs.declared.Setup.{Setup}
 use Rattle.protocol_types.specs.declared.Block.{Block}
 use Rattle.protocol_types.specs.declared.Request.{Request}
 use Rattle.protocol_types.specs.declared.Operation.{Operation}
-use Rattle.protocol_types.specs.declared.Operation.the-variants.{Read, Write}
+use Rattle.protocol_types.specs.declared.Operation.the-variants.{Read, Write, Clear}
 use Rattle.protocol_types.specs.declared.Entry.{Entry}
 use Rattle.protocol_types.proofs.Laws.{both, at-zeros}
 use Rattle.protocol.proofs.Rival.{sized-noCopies}
 use Rattle.competitive.proofs.Sums.{sum-zero}
 use Rattle.competitive.proofs.Fresh.{sound-fresh}
 use Rattle.competitive.proofs.Potential.{Potential, debt, load, fetch-potential, update-potential}
-use Rattle.competitive.proofs.Bound.{obtainedWeight, writtenWeight, weightBy, weight, weights, total, bound}
+use Rattle.competitive.proofs.Bound.{obtainedWeight, writtenWeight, clearedWeight, weightBy, weight, weights, total, bound}
 
 -- ---- the start: empty caches on both sides
 
@@ -55,11 +55,21 @@ module _ (s : Setup) (t : Tables) (i : ℕ) (b : Block) where
   unfolding writtenWeight updateCycles
   written-update = refl
 
+cleared-nothing : (s : Setup) (t : Tables) (i n : ℕ) → clearedWeight 0 s t i n ≡ 0
+cleared-nothing s t i zero = refl
+cleared-nothing s t i (suc n) = omega (arith, cleared-nothing s t i n, pick-same (marked (cleared s t i n) (lineSlot s i n)))
+
+cleared-back : (s : Setup) (t : Tables) (i n : ℕ) → clearedWeight (writeBackPrice s) s t i n ≡ clearCycles s t i n
+unfolding saveCycles
+cleared-back s t i zero = refl
+cleared-back s t i (suc n) = ap (λ z. z + cond (marked (cleared s t i n) (lineSlot s i n)) (writeBackPrice s) 0) (cleared-back s t i n)
+
 fetch-weight : (s : Setup) (t : Tables) (i : ℕ) (o : Operation) → weightBy (fetchPrice s) 0 0 s t i o ≡ billBy s t i o .fetch
 fetch-weight s t i (Read v) = obtained-fetch s t i (blockOf s v)
 fetch-weight s t i (Write v x) =
     let b : Block = blockOf s v in
     omega (arith, obtained-fetch s t i b, written-nothing s (obtained s t i b) i b)
+fetch-weight s t i Clear = cleared-nothing s t i (s .lines)
 
 update-weight : (s : Setup) (t : Tables) (i : ℕ) (o : Operation)
     → weightBy 0 (writeBackPrice s) 1 s t i o ≡ billBy s t i o .«write_back» + billBy s t i o .update
@@ -67,6 +77,7 @@ update-weight s t i (Read v) = omega (arith, obtained-back s t i (blockOf s v))
 update-weight s t i (Write v x) =
     let b : Block = blockOf s v in
     omega (arith, obtained-back s t i b, written-update s (obtained s t i b) i b)
+update-weight s t i Clear = omega (arith, cleared-back s t i (s .lines))
 
 fetch-weights : (s : Setup) (t : Tables) (qs : List Request) → weights (fetchPrice s) 0 0 s t qs ≡ spent (engine s) t qs .fetch
 unfolding weight bill

@@ -4,6 +4,7 @@ pub mod Sound
 pub mod StepSound
 pub mod Fresh
 pub mod Bound
+pub mod Clears
 pub mod Half
 pub mod Values
 pub mod Lawful

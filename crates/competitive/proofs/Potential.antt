@@ -24,6 +24,9 @@ pub record Potential (f F W U : ℕ) (ψ : ℕ → ℕ → ℕ → ℕ → ℕ) 
   -- the payer's counter falls: the rival has that copy too, or not
   pub pay-kept : (w b c : ℕ) → 0 < w → (0 < w - 1 → b ≡ c) → ψ (w - 1) b 1 c + U ≤ ψ w c 1 c + 1
   pub pay : (w a b h c : ℕ) → 0 < w → (h ≡ 1 → a ≢ c) → ψ (w - 1) b h c + U ≤ ψ w a h c
+  -- the engine empties a slot that the rival has empty, as at a clear
+  pub empty : (w a b c : ℕ) → ψ 0 b 0 c ≤ ψ w a 0 c
+  pub empty-marked : (w a b c : ℕ) → w ≡ f → ψ 0 b 0 c + W ≤ ψ w a 0 c
 
 -- the engine's counter where its block is the rival's, else 0
 unfoldable pub common : ℕ → ℕ → ℕ → ℕ
@@ -86,6 +89,8 @@ fetch-potential f = record {
   refill = λ w c. omega (arith, full c);
   pay-kept = λ w b c l n. omega (arith, debt-held f (w - 1) b c, common-kept (w - 1) b c n, debt-held f w c c, common-same w c c refl);
   pay = λ w a b h c l n. omega (arith, debt-pay f w a b h c n);
+  empty = λ w a b c. omega (arith, debt-none f 0 b c 0 (omega arith));
+  empty-marked = λ w a b c e. omega (arith, debt-none f 0 b c 0 (omega arith));
 }
   where
     full : (c : ℕ) → debt f f c 1 c ≡ 0
@@ -122,6 +127,8 @@ update-potential f g le = record {
   refill = λ w c. omega (arith, full f c, full w c);
   pay-kept = λ w b c l n. omega (arith, load-held f (w - 1) b c, common-kept (w - 1) b c n, full w c);
   pay = λ w a b h c l n. load-pay f w a b h c l n;
+  empty = λ w a b c. omega (arith, load-none f 0 b c 0 (omega arith));
+  empty-marked = λ w a b c e. omega (arith, load-none f 0 b c 0 (omega arith), load-none f w a c 0 (omega arith));
 }
   where
     full : (w c : ℕ) → load f w c 1 c ≡ f

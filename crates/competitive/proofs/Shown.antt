@@ -17,7 +17,7 @@ use Rattle.protocol_types.specs.declared.Setup.{Setup}
 use Rattle.protocol_types.specs.declared.Block.{Block}
 use Rattle.protocol_types.specs.declared.Request.{Request}
 use Rattle.protocol_types.specs.declared.Operation.{Operation}
-use Rattle.protocol_types.specs.declared.Operation.the-variants.{Read, Write}
+use Rattle.protocol_types.specs.declared.Operation.the-variants.{Read, Write, Clear}
 use Rattle.protocol_types.specs.declared.Entry.{Entry}
 use Rattle.protocol_types.specs.declared.Entry.the-variants.{Fetch, WriteBack, Drop, Complete, CompleteByBroadcast}
 use Rattle.protocol_types.proofs.Laws.{Same, same, apart, same?, choice, both-true, at-set, at-set-same, at-set-other, at-set-zero, at-zeros}
@@ -119,6 +119,7 @@ module _ (s : Setup) (ok : Fits s) (r : Rival) (z : RivalSized s r) (w : Shown r
   completed-shown i (Write v x) c k =
       choice (λ (ms : List ℕ). At (r .blocks) (r .held) ms k) (shared s r i (blockOf s v)) (λ _. w k)
       (λ _. marked-shown (slot s i (blockOf s v)) (kept-held s r i (blockOf s v) c) k)
+  completed-shown i Clear c k = w k
 
   played-shown : (qs : List Request) (e : Entry) → refusal s r qs e ≡ noRefusal → Shown (played s r qs e)
   unfolding rivalCompleted

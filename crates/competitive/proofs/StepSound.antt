@@ -1,26 +1,27 @@
 -- A step keeps the tables sound, and leaves the requesting processor with the block.
-use Prim.Native.Nat.{ℕ, _/_, _%_, _≤_, _<_}
+use Prim.Native.Nat.{ℕ, zero, suc, _/_, _%_, _≤_, _<_}
 use mathlib.Core.Path.{_≡_, sym, ap, _∙_}
 use mathlib.Core.Logic.{_≢_}
 use mathlib.Core.Bool.{true, false, true≢false}
 use native.Mathlib.Omega.{arith}
+use native.Mathlib.Nat.{le-refl}
 use lib.ListN.{set}
 use lib.Dec.{ltb}
 use borrow.Author.Tests.{ltb-true, ltb-false, eqb-true}
 use Rattle.protocol_types.specs.Lists.{at}
-use Rattle.protocol_types.specs.Board.{Fits, slots, slot, lineOf, blockOf, offsetOf, fetchPrice}
+use Rattle.protocol_types.specs.Board.{Fits, slots, lineSlot, slot, lineOf, blockOf, offsetOf, fetchPrice}
 use Rattle.protocol.specs.Tables.{Tables, Sized, counter, block, mark, holdsAt, holds, sharing, marked}
 use Rattle.protocol.specs.Soundness.{Sound}
-use Rattle.protocol.specs.Rules.{writtenBack, filled, saved, evicted, owner, released, fetched, obtained, payer, broadcast, charged, written}
+use Rattle.protocol.specs.Rules.{writtenBack, filled, saved, evicted, owner, released, fetched, obtained, payer, broadcast, charged, written, cleared}
 use Rattle.protocol_types.specs.Conditions.{Named, Valid}
 use Rattle.protocol.specs.Requests.{servedBy, served}
 use Rattle.protocol_types.specs.declared.Setup.{Setup}
 use Rattle.protocol_types.specs.declared.Block.{Block}
 use Rattle.protocol_types.specs.declared.Request.{Request}
 use Rattle.protocol_types.specs.declared.Operation.{Operation}
-use Rattle.protocol_types.specs.declared.Operation.the-variants.{Read, Write}
+use Rattle.protocol_types.specs.declared.Operation.the-variants.{Read, Write, Clear}
 use Rattle.protocol_types.proofs.Laws.{Same, same, apart, same?, choice, at-set-other}
-use Rattle.protocol_types.proofs.Board.{block-path, block-number, slot-lt, slot-inj, offset-lt, block-lt, processor-lt, slot-proper}
+use Rattle.protocol_types.proofs.Board.{block-path, block-number, lineSlot-lt, slot-lt, slot-inj, offset-lt, block-lt, processor-lt, slot-proper}
 use Rattle.protocol.proofs.Holding.{true-holdsAt, holder-slot, slot-holder, sharing-none, payer-below, payer-found, owner-found, owner-none}
 use Rattle.protocol.proofs.Lengths.{block-stored, counter-stored, mark-stored, sized-evicted, sized-released}
 use Rattle.competitive.proofs.Sound.{sound-writtenBack, sound-emptied, sound-filled, sound-writtenAlone, sound-broadcast, sound-charged}
@@ -163,6 +164,13 @@ module _ (s : Setup) (ok : Fits s) (t : Tables) (sd : Sound s t) (i : ℕ) (b : 
         sound-writtenAlone s ok t sd (slot s i b) o x (slot-lt s ok i b hi) (hs .0) ho
         (λ m u d l. rw (block-number (hs .1)) (alone-slots c m u d l)))
 
+-- ---- a clear
+
+pub sound-cleared : (s : Setup) (ok : Fits s) (t : Tables) (sd : Sound s t) (i n : ℕ) → i < s .processors → n ≤ s .lines → Sound s (cleared s t i n)
+sound-cleared s ok t sd i zero hi hn = sd
+sound-cleared s ok t sd i (suc n) hi hn =
+    sound-evicted s ok (cleared s t i n) (sound-cleared s ok t sd i n hi (omega arith)) (lineSlot s i n) (lineSlot-lt s ok i n hi hn)
+
 -- ---- requests that 3 and 4 let through
 
 pub sound-servedBy : (s : Setup) (ok : Fits s) (t : Tables) (sd : Sound s t) (i : ℕ) (o : Operation) → i < s .processors → Named s o → Sound s (servedBy s t i o)
@@ -171,6 +179,7 @@ sound-servedBy s ok t sd i (Write v x) hi n =
     let b : Block = blockOf s v in
     sound-written s ok (obtained s t i b) (sound-obtained s ok t sd i b hi (block-lt s ok v n)) i b hi (offsetOf s v) x (offset-lt s ok v)
     (obtained-holds s ok t sd i b hi)
+sound-servedBy s ok t sd i Clear hi n = sound-cleared s ok t sd i (s .lines) hi (le-refl _)
 
 pub sound-served : (s : Setup) (ok : Fits s) (t : Tables) (sd : Sound s t) (q : Request) → Valid s q → Sound s (served s t q)
 unfolding served

@@ -1,18 +1,19 @@
 -- A read supplies the last value written.
-use Prim.Native.Nat.{ℕ, _-_, _*_, _<_}
+use Prim.Native.Nat.{ℕ, zero, suc, _-_, _*_, _≤_, _<_}
 use mathlib.Core.Path.{_≡_, refl, sym, ap, _∙_}
 use mathlib.Core.Logic.{_≢_}
 use mathlib.Core.Bool.{true, false, _&&_, cond}
 use mathlib.Core.List.{List, [], _∷_}
 use native.Mathlib.Omega.{arith}
+use native.Mathlib.Nat.{le-refl}
 use lib.ListN.{set}
 use lib.Dec.{ltb, eqb}
 use borrow.Author.Tests.{ltb-true, eqb-true, eqb-false, eq-eqb}
 use Rattle.protocol_types.specs.Lists.{at}
-use Rattle.protocol_types.specs.Board.{Fits, variables, slots, slot, blockOf, offsetOf, wordIndex, memoryIndex, fetchPrice}
+use Rattle.protocol_types.specs.Board.{Fits, variables, slots, lineSlot, slot, blockOf, offsetOf, wordIndex, memoryIndex, fetchPrice}
 use Rattle.protocol.specs.Tables.{Tables, fresh, counter, block, mark, word, memoryWord, holds, sharing, marked}
 use Rattle.protocol.specs.Soundness.{Sound}
-use Rattle.protocol.specs.Rules.{writtenBack, emptied, filled, saved, evicted, owner, released, fetched, obtained, payer, writtenAlone, broadcast, charged, written}
+use Rattle.protocol.specs.Rules.{writtenBack, emptied, filled, saved, evicted, owner, released, fetched, obtained, payer, writtenAlone, broadcast, charged, written, cleared}
 use Rattle.protocol_types.specs.Conditions.{Named, Valid, AllValid}
 use Rattle.protocol.specs.Requests.{servedBy, served, valueBy}
 use Rattle.protocol.specs.Engines.{servedAll}
@@ -23,13 +24,13 @@ use Rattle.protocol_types.specs.declared.Variable.{Variable}
 use Rattle.protocol_types.specs.declared.Block.{Block}
 use Rattle.protocol_types.specs.declared.Request.{Request}
 use Rattle.protocol_types.specs.declared.Operation.{Operation}
-use Rattle.protocol_types.specs.declared.Operation.the-variants.{Read, Write}
+use Rattle.protocol_types.specs.declared.Operation.the-variants.{Read, Write, Clear}
 use Rattle.protocol_types.proofs.Laws.{Same, same, apart, same?, choice, at-set-same, at-set-other, at-set-zero, at-zeros}
-use Rattle.protocol_types.proofs.Board.{block-path, block-number, variable-path, SameBlock, one, two, same-block?, same-variable, slot-lt, wordIndex-inj, wordIndex-lt, offset-lt, block-lt}
+use Rattle.protocol_types.proofs.Board.{block-path, block-number, variable-path, SameBlock, one, two, same-block?, same-variable, lineSlot-lt, slot-lt, wordIndex-inj, wordIndex-lt, offset-lt, block-lt}
 use Rattle.protocol.proofs.Holding.{holder-slot, owner-found}
 use Rattle.protocol.proofs.Lengths.{counter-stored, block-stored, mark-stored}
 use Rattle.competitive.proofs.Sound.{writtenBack-memory-same, writtenBack-memory-other, emptied-word-other, filled-word-same, filled-word-other, broadcast-word-out, broadcast-word-in, broadcast-memory-same, broadcast-memory-other}
-use Rattle.competitive.proofs.StepSound.{sound-saved, sound-evicted, sound-released, released-unmarked, sound-obtained, obtained-holds, alone-slots, shared-facts, sound-served}
+use Rattle.competitive.proofs.StepSound.{sound-cleared, sound-saved, sound-evicted, sound-released, released-unmarked, sound-obtained, obtained-holds, alone-slots, shared-facts, sound-served}
 use Rattle.competitive.proofs.Fresh.{sound-fresh}
 use Rattle.competitive.proofs.Bound.{released-counters, evicted-zero}
 
@@ -199,6 +200,13 @@ module _ (s : Setup) (ok : Fits s) (t : Tables) (sd : Sound s t) (b : Block) (o 
       go2 n (two p) c =
           broadcast-memory-other s ok t sd k b₀ o₀ v b o ho₀ ho (λ y. absurd (p y)) ∙ has .memory n ∙ sym (over-other b₀ o₀ v b o x (λ y. absurd (p y)))
 
+has-cleared : (s : Setup) (ok : Fits s) (t : Tables) (sd : Sound s t) (b : Block) (o x : ℕ) → o < s .words → Has s t b o x
+    → (i n : ℕ) → i < s .processors → n ≤ s .lines → Has s (cleared s t i n) b o x
+has-cleared s ok t sd b o x ho has i zero hi hn = has
+has-cleared s ok t sd b o x ho has i (suc n) hi hn =
+    has-evicted s ok (cleared s t i n) (sound-cleared s ok t sd i n hi (omega arith)) b o x ho (has-cleared s ok t sd b o x ho has i n hi (omega arith))
+    (lineSlot s i n) (lineSlot-lt s ok i n hi hn)
+
 module _ (s : Setup) (ok : Fits s) (t : Tables) (sd : Sound s t) (b : Block) (o x : ℕ) (ho : o < s .words) (has : Has s t b o x) (i : ℕ) (c : Block)
     (hi : i < s .processors) (hc : c .0 < s .blocks) where
   has-obtained : Has s (obtained s t i c) b o x
@@ -290,6 +298,7 @@ module _ (s : Setup) (ok : Fits s) (t : Tables) (sd : Sound s t) (i : ℕ) (hi :
       rw (over-newer s w y v x) at
       (has-written s ok (obtained s t i b) (sound-obtained s ok t sd i b hi (block-lt s ok w n)) (blockOf s v) (offsetOf s v) x (offset-lt s ok v)
       (stores-obtained w n v x has) i b hi (block-lt s ok w n) (offsetOf s w) y (offset-lt s ok w) (obtained-holds s ok t sd i b hi))
+  stores-servedBy Clear n v x has = has-cleared s ok t sd (blockOf s v) (offsetOf s v) x (offset-lt s ok v) has i (s .lines) hi (le-refl _)
 
   -- a read supplies it
   pub read-value : (v : Variable) (x : ℕ) → v .0 < variables s → Stores s t v x → valueBy s t i (Read v) ≡ x
@@ -325,3 +334,4 @@ last-value s ok ps i (Read v) va hi n =
     let h = stores-list s ok (fresh s) (sound-fresh s) ps va v 0 (stores-fresh s v) in
     read-value s ok (servedAll (engine s) (fresh s) ps) (h .0) i hi v (lastWritten ps v 0) n (h .1)
 last-value s ok ps i (Write v x) va hi n = refl
+last-value s ok ps i Clear va hi n = refl

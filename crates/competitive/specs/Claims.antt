@@ -1,5 +1,5 @@
 -- What the demands say of whole lists of runs, of whole schedules and of generated lists. proofs/Demands proves it: `Demands` of every setup that is not refused, `RefusedAtOnce` of every setup.
-use Prim.Native.Nat.{ℕ, _+_, _*_, _≤_}
+use Prim.Native.Nat.{ℕ, zero, suc, _+_, _*_, _≤_, _<_}
 use mathlib.Core.Path.{_≡_}
 use mathlib.Core.Logic.{_≢_}
 use mathlib.Core.Bool.{Bool, true, false, _&&_, cond}
@@ -8,10 +8,11 @@ use lib.ListN.{length, take}
 use lib.Dec.{eqb}
 use Rattle.protocol_types.specs.Lists.{at}
 use Rattle.protocol_types.specs.Refusals.{noRefusal}
-use Rattle.protocol_types.specs.Board.{setupRefusal, fetchPrice, writeBackPrice, variables}
-use Rattle.protocol.specs.Tables.{Tables, sized, fresh}
-use Rattle.protocol.specs.Soundness.{sound}
+use Rattle.protocol_types.specs.Board.{setupRefusal, fetchPrice, writeBackPrice, variables, slots, lineSlot}
+use Rattle.protocol.specs.Tables.{Tables, counter, block, mark, word, memoryWord, marked, sized, fresh}
+use Rattle.protocol.specs.Soundness.{Sound, sound}
 use Rattle.protocol_types.specs.Conditions.{requestLimit}
+use Rattle.protocol.specs.Requests.{served, value, bill}
 use Rattle.protocol.specs.Accounts.{cycles, fetchAndUpdate, freshAccount, entered, cyclesOf, billOf, possible}
 use Rattle.protocol.specs.Engines.{answered, run, Run, State, outcomes, runs, takenAll, spent, expectedAll, valuesOf, Never20Or21}
 use Rattle.protocol.specs.Runs.{engine, opening}
@@ -21,9 +22,10 @@ use Rattle.protocol.specs.Generator.{generateRefusal, generated}
 use Rattle.competitive.specs.EngineSchedule.{EngineIsRival}
 use Rattle.protocol_types.specs.declared.Setup.{Setup}
 use Rattle.protocol_types.specs.declared.Variable.{Variable}
+use Rattle.protocol_types.specs.declared.Block.{Block}
 use Rattle.protocol_types.specs.declared.Request.{Request}
 use Rattle.protocol_types.specs.declared.Operation.{Operation}
-use Rattle.protocol_types.specs.declared.Operation.the-variants.{Read, Write}
+use Rattle.protocol_types.specs.declared.Operation.the-variants.{Read, Write, Clear}
 use Rattle.protocol_types.specs.declared.Bill.{Bill}
 use Rattle.protocol_types.specs.declared.Account.{Account}
 use Rattle.protocol_types.specs.declared.Entry.{Entry}
@@ -125,16 +127,18 @@ pub record Demand3 (s : Setup) : Type 0 where
 abbrev pub newer : Operation → Variable → ℕ → ℕ
 newer (Read w) v x = x
 newer (Write w y) v x = cond (eqb (w .0) (v .0)) y x
+newer Clear v x = x
 
 -- the last value written to variable v by the requests, x if none was
 abbrev pub lastWritten : List Request → Variable → ℕ → ℕ
 lastWritten [] v x = x
 lastWritten (q ∷ qs) v x = lastWritten qs v (newer (q .operation) v x)
 
--- what an operation supplies or writes, where ps were taken before it
+-- what an operation supplies or writes, where ps were taken before it; a clear "gives value 0" (document 02, P6)
 abbrev pub expectedBy : List Request → Operation → ℕ
 expectedBy ps (Read v) = lastWritten ps v 0
 expectedBy ps (Write v x) = x
+expectedBy ps Clear = 0
 
 abbrev pub expectedValue : List Request → Request → ℕ
 expectedValue ps q = expectedBy ps (q .operation)
@@ -142,6 +146,45 @@ expectedValue ps q = expectedBy ps (q .operation)
 pub record LastValues (s : Setup) : Type 0 where
   pub values : (a : Account) → possible s a ≡ true → (rs : List (Run Request)) → valuesOf (outcomes (engine s) (opening s a) rs) ≡ expectedAll (engine s) expectedValue (a .requests) [] rs
   pub never : (a : Account) → possible s a ≡ true → (rs : List (Run Request)) → Never20Or21 (outcomes (engine s) (opening s a) rs)
+
+-- ---- what a clear does (document 02, P6), read off the tables before and after it
+
+abbrev pub clearBy : ℕ → Request
+clearBy i = record { processor = i; operation = Clear }
+
+-- the marked ones of processor i's first n lines
+abbrev pub markedLines : Setup → Tables → ℕ → ℕ → ℕ
+markedLines s t i zero = 0
+markedLines s t i (suc n) = markedLines s t i n + cond (marked t (lineSlot s i n)) 1 0
+
+-- slot k is all 0
+pub record Emptied (s : Setup) (t : Tables) (k : ℕ) : Type 0 where
+  pub counter : counter t k ≡ 0
+  pub block : block t k .0 ≡ 0
+  pub mark : mark t k ≡ 0
+  pub words : (o : ℕ) → o < s .words → word s t k o ≡ 0
+
+-- slot k is in t′ as it is in t
+pub record Unchanged (s : Setup) (t t′ : Tables) (k : ℕ) : Type 0 where
+  pub counter : counter t′ k ≡ counter t k
+  pub block : block t′ k ≡ block t k
+  pub mark : mark t′ k ≡ mark t k
+  pub words : (o : ℕ) → o < s .words → word s t′ k o ≡ word s t k o
+
+pub record ClearedRight (s : Setup) (t : Tables) (i : ℕ) : Type 0 where
+  -- "every line empties"
+  pub empties : (l : ℕ) → l < s .lines → Emptied s (served s t (clearBy i)) (lineSlot s i l)
+  -- and no line of another cache changes
+  pub others : (k : ℕ) → ((l : ℕ) → l < s .lines → k ≢ lineSlot s i l) → Unchanged s t (served s t (clearBy i)) k
+  -- "marked blocks are written back": main memory takes their words
+  pub takes : (l o : ℕ) → l < s .lines → o < s .words → mark t (lineSlot s i l) ≡ 1
+      → memoryWord s (served s t (clearBy i)) (block t (lineSlot s i l)) o ≡ word s t (lineSlot s i l) o
+  -- and keeps its own of every other block
+  pub keeps : (b : Block) (o : ℕ) → o < s .words → ((l : ℕ) → l < s .lines → mark t (lineSlot s i l) ≡ 1 → b ≢ block t (lineSlot s i l))
+      → memoryWord s (served s t (clearBy i)) b o ≡ memoryWord s t b o
+  -- "at g each"
+  pub charges : bill s t (clearBy i) ≡ record { fetch = 0; «write_back» = writeBackPrice s * markedLines s t i (s .lines); update = 0 }
+  pub gives : value s t (clearBy i) ≡ 0
 
 -- ---- demand 2: "A rival schedule that 1, 2 and 5 let through" (and 10, which acts as 1 does) "is accepted if and only if it is legal, at its true cost."
 
@@ -194,6 +237,7 @@ pub record RefusedAtOnce (s : Setup) : Type 0 where
 -- each demand, of one setup
 pub record Demands (s : Setup) : Type 0 where
   pub last-values : LastValues s
+  pub cleared-right : (t : Tables) → Sound s t → (i : ℕ) → i < s .processors → ClearedRight s t i
   pub judged-right : (qs : List Request) (es : List Entry) → JudgedRight s qs es
   pub priced-right : (lent : Rival) (qs : List Request) (es : List Entry) → priceRefusal s lent (length es) (length qs) ≡ noRefusal → PricedRight s lent qs es
   pub demand3 : Demand3 s

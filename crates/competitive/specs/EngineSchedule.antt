@@ -1,13 +1,13 @@
 -- The engine's own actions as a rival's schedule, and what is claimed of it.
-use Prim.Native.Nat.{ℕ, _<_}
+use Prim.Native.Nat.{ℕ, zero, suc, _<_}
 use mathlib.Core.Path.{_≡_}
 use mathlib.Core.Bool.{_&&_, cond}
 use mathlib.Core.List.{List, [], _∷_, _++_}
 use lib.Dec.{ltb, eqb}
 use Rattle.protocol_types.specs.Lists.{at}
-use Rattle.protocol_types.specs.Board.{slots, slot, blockOf}
+use Rattle.protocol_types.specs.Board.{slots, lineSlot, slot, blockOf}
 use Rattle.protocol.specs.Tables.{Tables, fresh, counter, block, mark, holds, sharing, marked}
-use Rattle.protocol.specs.Rules.{obtained, payer}
+use Rattle.protocol.specs.Rules.{obtained, payer, cleared}
 use Rattle.protocol.specs.Requests.{served}
 use Rattle.protocol.specs.Engines.{servedAll, spent}
 use Rattle.protocol.specs.Runs.{engine}
@@ -16,7 +16,7 @@ use Rattle.protocol_types.specs.declared.Setup.{Setup}
 use Rattle.protocol_types.specs.declared.Block.{Block}
 use Rattle.protocol_types.specs.declared.Request.{Request}
 use Rattle.protocol_types.specs.declared.Operation.{Operation}
-use Rattle.protocol_types.specs.declared.Operation.the-variants.{Read, Write}
+use Rattle.protocol_types.specs.declared.Operation.the-variants.{Read, Write, Clear}
 use Rattle.protocol_types.specs.declared.Entry.{Entry}
 use Rattle.protocol_types.specs.declared.Entry.the-variants.{Fetch, WriteBack, Drop, Complete}
 
@@ -40,10 +40,16 @@ paying s t i b =
     cond (sharing s t i b && eqb (counter t (slot s (payer s t i b) b)) 1)
     (Drop (payer s t i b) b ∷ []) []
 
--- processor i's operation: the block is obtained, the request completed, and the payer pays for a write
+-- a clear (document 02, P6): each of processor i's first n lines that is held, from line 0 up, is written back if it is marked, then dropped
+abbrev pub clearing : Setup → Tables → ℕ → ℕ → List Entry
+clearing s t i zero = []
+clearing s t i (suc n) = clearing s t i n ++ evicting (cleared s t i n) i (lineSlot s i n)
+
+-- processor i's operation: the block is obtained, the request completed, and the payer pays for a write; a clear is completed once the cache is empty
 abbrev pub servingBy : Setup → Tables → ℕ → Operation → List Entry
 servingBy s t i (Read v) = obtaining s t i (blockOf s v) ++ Complete ∷ []
 servingBy s t i (Write v x) = obtaining s t i (blockOf s v) ++ Complete ∷ paying s (obtained s t i (blockOf s v)) i (blockOf s v)
+servingBy s t i Clear = clearing s t i (s .lines) ++ Complete ∷ []
 
 unfoldable pub serving : Setup → Tables → Request → List Entry
 serving s t q = servingBy s t (q .processor) (q .operation)
