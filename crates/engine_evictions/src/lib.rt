@@ -1,4 +1,4 @@
-// A line of a cache emptied, and its block written back.
+// A line of a cache emptied, its block written back, and a whole cache cleared.
 use parts::clear_row;
 use parts::copy_row;
 use protocol_types::Setup;
@@ -6,10 +6,10 @@ ghost use mathlib.Core.Path.{_≡_};
 ghost use mathlib.Core.List.{List};
 ghost use Prim.Native.Nat.{ℕ, _<_};
 ghost use Rattle.protocol_types.specs.Lists.{at};
-ghost use Rattle.protocol_types.specs.Board.{slots};
+ghost use Rattle.protocol_types.specs.Board.{Fits, slots};
 ghost use Rattle.protocol.specs.Tables.{Sized};
 ghost use Rattle.protocol.specs.Lent.{lent, before, after, unlent, PerSlot, PerSlotWord, PerVariable};
-ghost use Rattle.protocol.specs.Rules.{emptied, writtenBack, saved, saveCycles, evicted};
+ghost use Rattle.protocol.specs.Rules.{emptied, writtenBack, saved, saveCycles, evicted, cleared, clearCycles};
 
 // Slot k becomes empty.
 pub fn empty_line(
@@ -89,5 +89,31 @@ pub fn evict(
 {
     let cycles = save(setup, k, blocks, marks, words, memory);
     empty_line(setup, k, blocks, counters, marks, words);
+    cycles
+}
+
+// A processor's cache is cleared, from line 0 up. Returns the cycles.
+pub fn clear(
+    setup: Setup,
+    processor: u32,
+    blocks: &mut [u32],
+    counters: &mut [u32],
+    marks: &mut [u32],
+    words: &mut [u32],
+    memory: &mut [u32],
+) -> u32
+    requires { ⌜ Fits setup ⌝ }
+    requires { ⌜ processor < setup .processors ⌝ }
+    requires { ⌜ ((k : ℕ) → at (now blocks) k < setup .blocks) ⌝ }
+    requires { ⌜ Sized setup (lent blocks counters marks words memory) ⌝ }
+    ensures { λ r. ⌜ r ≡ clearCycles setup (before blocks counters marks words memory) processor (setup .lines) ⌝ }
+    ensures { λ _. ⌜ after blocks counters marks words memory ≡ cleared setup (before blocks counters marks words memory) processor (setup .lines) ⌝ }
+{
+    let n = setup.lines;
+    let mut cycles = 0;
+    for l in 0..n {
+        let k = setup.line_slot(processor, l);
+        cycles += evict(setup, k, blocks, counters, marks, words, memory);
+    }
     cycles
 }

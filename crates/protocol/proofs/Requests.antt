@@ -1,9 +1,8 @@
 -- Laws of one request: what it can cost.
 use Prim.Native.Nat.{ℕ, zero, suc, _*_, _≤_}
-use mathlib.Core.Path.{_≡_, sym}
 use native.Mathlib.Omega.{arith}
 use native.Mathlib.Nat.{le-refl, mul-le-mul, mul-suc}
-use Rattle.protocol_types.specs.Board.{Fits, lineSlot, slot, blockOf, fetchPrice, writeBackPrice, mostWriteBack}
+use Rattle.protocol_types.specs.Board.{Fits, lineSlot, slot, blockOf, fetchPrice, writeBackPrice, mostWriteBack, mostWriteBackLimit}
 use Rattle.protocol.specs.Tables.{Tables, holds, sharing, marked}
 use Rattle.protocol.specs.Rules.{saveCycles, fetchCycles, writeBackCycles, obtained, updateCycles, cleared, clearCycles}
 use Rattle.protocol.specs.Accounts.{Spent}
@@ -40,6 +39,11 @@ update-le s t i b = choice (λ z. z ≤ 1) (sharing s t i b) (λ e. omega arith)
 clear-le : (s : Setup) (t : Tables) (i n : ℕ) → clearCycles s t i n ≤ writeBackPrice s * n
 clear-le s t i zero = omega arith
 clear-le s t i (suc n) = omega (arith, clear-le s t i n, save-le s (cleared s t i n) (lineSlot s i n), mul-suc (writeBackPrice s) n)
+
+-- so far, of l lines of a clear: at most 64 lines at the highest price
+pub few-clear : (s : Setup) → Fits s → (t : Tables) (i l : ℕ) → l ≤ s .lines → clearCycles s t i l ≤ mostWriteBackLimit
+unfolding mostWriteBack
+few-clear s ok t i l h = omega (arith, clear-le s t i l, mul-le-mul (le-refl (writeBackPrice s)) h, ok .few-write-back)
 
 -- a clear writes back no more than every line of a cache
 clear-back-le : (s : Setup) (t : Tables) (i : ℕ) → clearCycles s t i (s .lines) ≤ mostWriteBack s
