@@ -1,4 +1,5 @@
 // One request, served on the lent tables.
+use engine_evictions::clear;
 use engine_evictions::evict;
 use engine_holders::holds;
 use engine_lines::fetch;
@@ -129,6 +130,34 @@ fn serve_access(
     }
 }
 
+// Processor i's cache is cleared.
+fn serve_clear(
+    setup: Setup,
+    i: u32,
+    blocks: &mut [u32],
+    counters: &mut [u32],
+    marks: &mut [u32],
+    words: &mut [u32],
+    memory: &mut [u32],
+) -> Served
+    requires { ⌜ Fits setup ⌝ }
+    requires { ⌜ i < setup .processors ⌝ }
+    requires { ⌜ Usable setup (lent blocks counters marks words memory) ⌝ }
+    ensures { λ r. ⌜ r .value ≡ valueBy setup (before blocks counters marks words memory) i Operation.Clear ⌝ }
+    ensures { λ r. ⌜ r .bill ≡ billBy setup (before blocks counters marks words memory) i Operation.Clear ⌝ }
+    ensures { λ _. ⌜ after blocks counters marks words memory ≡ servedBy setup (before blocks counters marks words memory) i Operation.Clear ⌝ }
+{
+    let write_back = clear(setup, i, blocks, counters, marks, words, memory);
+    Served {
+        value: 0,
+        bill: Bill {
+            fetch: 0,
+            write_back: write_back,
+            update: 0,
+        },
+    }
+}
+
 // One request is served.
 pub fn serve(
     setup: Setup,
@@ -156,6 +185,17 @@ pub fn serve(
             variable: variable,
             effect: Effect::Store(value),
         },
+        Operation::Clear => {
+            return serve_clear(
+                setup,
+                request.processor,
+                blocks,
+                counters,
+                marks,
+                words,
+                memory,
+            );
+        }
     };
     serve_access(
         setup,

@@ -1,4 +1,4 @@
--- By either arm the access is the request's operation, which names its variable.
+-- By the two arms of a read and a write the access is the request's operation, which names its variable; the third is a clear.
 use borrow.Author.Needs.{needs}
 use Prim.Native.Nat.{_<_}
 use mathlib.Core.Path.{_≡_}
@@ -18,6 +18,17 @@ variable-named : (s : Setup) (v : Variable) (e : Effect) → Named s (operationB
 variable-named s v Supply h = h
 variable-named s v (Store x) h = h
 
+serve-clear-requires : tie.Need-serve-clear-requires
+serve-clear-requires c κs =
+    let start = c .before .before .before .before .before .before .before .before .before .before .before .before in
+    (start .pre .0, (start .pre .1 .0 .processor, start .pre .1 .1))
+
+returns : tie.Need-returns
+unfolding value bill served
+returns c =
+    let serve-clear′ = c .before .before .before .before .before .before .before .before .before .before in
+    rw (serve-clear′ .before .before .before .before .before .before .enum-told .given .1) (serve-clear′ .serve-clear .ensures)
+
 serve-access-requires : tie.Need-serve-access-requires
 serve-access-requires c κs =
     let match′ = c .before .before .before .before .before in
@@ -28,9 +39,9 @@ serve-access-requires c κs =
     let named : Named (a .setup) (operationOf access) = rw e at (start .pre .1 .0 .operation) in
     (start .pre .0, (start .pre .1 .0 .processor, (variable-named (a .setup) (access .variable) (access .effect) named, start .pre .1 .1)))
 
-returns : tie.Need-returns
+returns-2 : tie.Need-returns-2
 unfolding value bill served
-returns c =
+returns-2 c =
     let serve-access′ = c .before .before .before .before .before .before .before .before .before .before in
     let match′ = serve-access′ .before .before .before .before .before .before in
     let start = match′ .before .before .before .before .before .before in
@@ -45,10 +56,18 @@ serve-spec =
     (tie.spec
     (λ c. search needs)
     (λ c. search needs)
+    (λ c. search needs)
+    serve-clear-requires
+    (λ c. search needs)
+    (λ c. search needs)
+    (λ c. search needs)
+    (λ c. search needs)
+    (λ c. search needs)
+    returns
     serve-access-requires
     (λ c. search needs)
     (λ c. search needs)
     (λ c. search needs)
     (λ c. search needs)
     (λ c. search needs)
-    returns)
+    returns-2)
