@@ -20,13 +20,16 @@ static void write_back(int i, uint32_t l) {
     mark[i][l] = 0;
 }
 
+static void write_back_marked(int i, uint32_t l) {
+    if (!mark[i][l]) return;
+    write_back(i, l);
+    write_back_cycles += WRITE_BACK_PRICE;
+}
+
 static void obtain(int i, uint32_t b) {
     uint32_t l = b % L;
     if (holds(i, b)) return;
-    if (mark[i][l]) {
-        write_back(i, l);
-        write_back_cycles += WRITE_BACK_PRICE;
-    }
+    write_back_marked(i, l);
     for (int j = 0; j < N; j++)
         if (j != i && holds(j, b) && mark[j][l]) write_back(j, l);
     block[i][l] = b;
@@ -54,11 +57,27 @@ static void put(int i, uint32_t b, uint32_t o, uint32_t x) {
     if (--counter[payer][l] == 0) empty(payer, l);
 }
 
+static void clear(int i) {
+    for (uint32_t l = 0; l < L; l++) {
+        write_back_marked(i, l);
+        empty(i, l);
+    }
+}
+
 static int hex(int c) {
     if (c >= '0' && c <= '9') return c - '0';
     if (c >= 'A' && c <= 'F') return c - 'A' + 10;
     if (c >= 'a' && c <= 'f') return c - 'a' + 10;
     return 16;
+}
+
+/* Apart from reads and writes, since a clear names no variable. */
+static int take_clear(uint32_t i) {
+    if (i >= N) return 3;
+    if (requests >= LIMIT) return 22;
+    clear(i);
+    requests++;
+    return 0;
 }
 
 /* One line without its newline; the refusal number, 0 for none. */
@@ -74,7 +93,7 @@ static int take(const unsigned char *s, int n, uint32_t number) {
     }
     if (digits == 0) return 6;
     if (at < n && s[at] != ' ' && s[at] != '\t' && s[at] != '\r') return 6;
-    if (s[0] > '2') return 7;
+    if (s[0] > '2') return s[0] == '4' ? take_clear(address >> 24) : 7;
     uint32_t i = address >> 24, v = (address & 0xffffff) / 4;
     if (i >= N) return 3;
     if (v >= M * P) return 4;

@@ -35,17 +35,30 @@ begin
   marks[i, k] := 0;
 end;
 
+procedure WriteBackMarked(i, k: longword); inline;
+begin
+  if marks[i, k] <> 0 then
+  begin
+    Save(i, k);
+    writeBacks := writeBacks + WriteBackPrice;
+  end;
+end;
+
+procedure Empty(i, k: longword); inline;
+begin
+  blocks[i, k] := 0;
+  counters[i, k] := 0;
+  marks[i, k] := 0;
+  FillChar(words[i, k], SizeOf(TWords), 0);
+end;
+
 procedure Obtain(i, b: longword);
 var
   j, k: longword;
 begin
   k := b mod L;
   if Holds(i, b) then exit;
-  if marks[i, k] <> 0 then
-  begin
-    Save(i, k);
-    writeBacks := writeBacks + WriteBackPrice;
-  end;
+  WriteBackMarked(i, k);
   for j := 0 to N - 1 do
     if (j <> i) and Holds(j, b) and (marks[j, k] <> 0) then Save(j, k);
   blocks[i, k] := b;
@@ -79,11 +92,17 @@ begin
   memory[b][o] := x;
   updates := updates + 1;
   counters[payer, k] := counters[payer, k] - 1;
-  if counters[payer, k] = 0 then
+  if counters[payer, k] = 0 then Empty(payer, k);
+end;
+
+procedure Clear(i: longword);
+var
+  k: longword;
+begin
+  for k := 0 to L - 1 do
   begin
-    blocks[payer, k] := 0;
-    marks[payer, k] := 0;
-    FillChar(words[payer, k], SizeOf(TWords), 0);
+    WriteBackMarked(i, k);
+    Empty(i, k);
   end;
 end;
 
@@ -96,6 +115,16 @@ begin
   else
     HexValue := 16;
   end;
+end;
+
+{ Apart from reads and writes, since a clear names no variable. }
+function TakeClear(i: longword): longword;
+begin
+  if i >= N then exit(3);
+  if requests >= Limit then exit(22);
+  Clear(i);
+  requests := requests + 1;
+  TakeClear := 0;
 end;
 
 { One line without its newline; the refusal number, 0 for none. }
@@ -119,7 +148,11 @@ begin
   end;
   if digits = 0 then exit(6);
   if (at < length) and (line[at] <> 32) and (line[at] <> 9) and (line[at] <> 13) then exit(6);
-  if line[0] > 50 then exit(7);
+  if line[0] > 50 then
+  begin
+    if line[0] <> 52 then exit(7);
+    exit(TakeClear(address shr 24));
+  end;
   i := address shr 24;
   v := (address and $ffffff) div 4;
   if i >= N then exit(3);

@@ -39,15 +39,19 @@ impl Board {
         line.mark = false;
     }
 
+    fn write_back_marked(&mut self, i: usize, l: usize) {
+        if self.caches[i][l].mark {
+            self.save(i, l);
+            self.write_back += WRITE_BACK_PRICE;
+        }
+    }
+
     fn obtain(&mut self, i: usize, b: usize) {
         let l = b % L;
         if self.holds(i, b) {
             return;
         }
-        if self.caches[i][l].mark {
-            self.save(i, l);
-            self.write_back += WRITE_BACK_PRICE;
-        }
+        self.write_back_marked(i, l);
         for j in 0..N {
             if j != i && self.holds(j, b) && self.caches[j][l].mark {
                 self.save(j, l);
@@ -82,6 +86,26 @@ impl Board {
         }
     }
 
+    fn clear(&mut self, i: usize) {
+        for l in 0..L {
+            self.write_back_marked(i, l);
+            self.caches[i][l] = Line::default();
+        }
+    }
+
+    // Apart from reads and writes, since a clear names no variable.
+    fn take_clear(&mut self, i: usize) -> u32 {
+        if i >= N {
+            return 3;
+        }
+        if self.requests >= LIMIT {
+            return 22;
+        }
+        self.clear(i);
+        self.requests += 1;
+        0
+    }
+
     // One line without its newline; the refusal number, 0 for none.
     fn take(&mut self, s: &[u8], number: u32) -> u32 {
         if s.is_empty() || s.len() > WIDTH || !s[0].is_ascii_digit() {
@@ -106,7 +130,7 @@ impl Board {
             return 6;
         }
         if s[0] > b'2' {
-            return 7;
+            return if s[0] == b'4' { self.take_clear((address >> 24) as usize) } else { 7 };
         }
         let (i, v) = ((address >> 24) as usize, ((address & 0xff_ffff) / 4) as usize);
         if i >= N {

@@ -9,19 +9,27 @@ import subprocess
 import sys
 
 
-def address(rng):
+def label(rng):
+    if rng.random() < 0.002:
+        return rng.choice("356789")
+    return rng.choice("012") if rng.random() < 0.9 else "4"
+
+
+def address(rng, wide):
+    """An address; its low 24 bits are any with the chance wide, else a variable's."""
     processor = rng.randrange(4) if rng.random() < 0.995 else rng.randrange(256)
-    offset = rng.randrange(1024) if rng.random() < 0.995 else rng.randrange(1 << 24)
+    offset = rng.randrange(1 << 24) if rng.random() < wide else rng.randrange(1024)
     number = processor << 24 | offset
     text = "%x" % number if rng.random() < 0.5 else "%08X" % number
     return text
 
 
 def line(rng):
-    label = rng.choice("012") if rng.random() < 0.998 else rng.choice("3456789")
+    digit = label(rng)
     gap = rng.choice([" ", "\t", "  ", " \t "])
     end = rng.choice(["", "", "", "\r", " ignored", "\tff"])
-    return label + gap + address(rng) + end
+    # A clear ignores its low bits, so half of the clears draw them from all 24.
+    return digit + gap + address(rng, 0.5 if digit == "4" else 0.005) + end
 
 
 def damaged(rng, text):

@@ -1,5 +1,6 @@
 #!/usr/bin/env python3
-"""Writes a din trace of LINES lines (default 1,000,000) on standard output: reads and writes of four processors with shared and private blocks."""
+"""Writes a din trace of LINES lines (default 1,000,000) on standard output: reads and writes of four processors with
+shared and private blocks. No clears, so that times stay comparable with earlier ones."""
 import random
 import sys
 

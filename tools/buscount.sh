@@ -31,7 +31,7 @@ refused() {
         3) echo "line $2: no such processor (3)" ;;
         4) echo "line $2: no such variable (4)" ;;
         6) echo "line $2: malformed line (6)" ;;
-        7) echo "line $2: label above 2 (7)" ;;
+        7) echo "line $2: label above 2 other than 4 (7)" ;;
         22) echo "line $2: the 1,000,001st request (22)" ;;
         *) echo "line $2: refused ($1)" ;;
     esac >&2

@@ -37,13 +37,17 @@ try_refused() {
 
 first='0 0\n0 1000000\n1 0\n1 4\n'
 try_refused 'malformed' 'line 5: malformed line (6)' < <(printf "${first}x 0\n1 0\n")
-try_refused 'a label' 'line 5: label above 2 (7)' < <(printf "${first}7 0\n1 0\n")
+for label in 3 7; do
+    try_refused "label $label" 'line 5: label above 2 other than 4 (7)' < <(printf "$first$label 0\n1 0\n")
+done
 try_refused 'a processor' 'line 5: no such processor (3)' < <(printf "${first}0 4000000\n")
 try_refused 'a variable' 'line 5: no such variable (4)' < <(printf "${first}0 400")
 try_refused 'too many requests' 'line 1000001: the 1,000,001st request (22)' < <(yes '0 0' | head -n 1000001)
 
 try 'a whole trace, as a file' 0 crates/buscount/stdout '' "$run" "$whole"
 try 'a whole trace, on standard input' 0 crates/buscount/stdout '' "$run" < "$whole"
+printf 'requests 2\nfetch 4\nwrite-back 4\nupdate 0\ntotal 8\nended 0 0\n' > "$work/cleared"
+try 'a clear' 0 "$work/cleared" '' "$run" < <(printf '1 0\n4 ffffff\n')
 try 'a program named by the environment' 0 crates/buscount/stdout '' env BUSCOUNT="$PWD/target/bin/buscount" "$run" "$whole"
 cp "$whole" "$work/a trace"
 from_elsewhere() { (cd "$work" && "$run" 'a trace'); }
