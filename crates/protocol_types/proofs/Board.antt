@@ -45,7 +45,7 @@ in-range-fits s e prices =
       few-fetch = few;
       some-write-back = leb-true _ _ (g .0);
       write-back-le-fetch = cheaper;
-      few-write-back = mul-le-mul low (leb-true (s .lines) 64 (l .1));
+      few-write-back = omega (arith, low, mul-le-mul low (leb-true (s .lines) 64 (l .1)));
     }
 
 pub setup-fits : (s : Setup) → setupRefusal s ≡ noRefusal → Fits s
