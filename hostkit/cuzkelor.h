@@ -32,7 +32,7 @@ extern "C" {
 /* ---- Numbers ---- */
 
 /* The version of what the archive exports and of what it means. */
-#define CUZKELOR_VERSION 4
+#define CUZKELOR_VERSION 5
 
 /* Why something is refused: name, number, what is refused, the condition in words.
  *
@@ -47,9 +47,9 @@ extern "C" {
     X(CUZKELOR_NO_SUCH_VARIABLE, 4, PLACE, "no such variable")                                                         \
     X(CUZKELOR_TOO_MANY, 5, CALL, "over 1,000,000 requests to the pricer or generator, or 4,000,000 entries")          \
     X(CUZKELOR_MALFORMED_LINE, 6, PLACE, "malformed trace line")                                                       \
-    X(CUZKELOR_UNKNOWN_LABEL, 7, PLACE, "a trace label is a digit above 2")                                            \
+    X(CUZKELOR_UNKNOWN_LABEL, 7, PLACE, "a trace label is a digit above 2 other than 4")                               \
     X(CUZKELOR_NO_SUCH_BLOCK, 8, PLACE, "no such block")                                                               \
-    X(CUZKELOR_READ_BY_BROADCAST, 9, PLACE, "a read is completed by broadcast")                                        \
+    X(CUZKELOR_BROADCAST_WITHOUT_WRITE, 9, PLACE, "a read or a clear is completed by broadcast")                       \
     X(CUZKELOR_PRICE_OUT_OF_RANGE, 10, CALL, "the fetch price or the write-back price is out of range")                \
     X(CUZKELOR_SEED_ZERO, 11, CALL, "the seed of a generated list is 0")                                               \
     X(CUZKELOR_UNSOUND_TABLES, 20, CALL, "the tables are not sound")                                                   \
@@ -60,7 +60,8 @@ extern "C" {
     X(CUZKELOR_DROP_OF_MARKED, 25, PLACE, "a drop of a marked block")                                                  \
     X(CUZKELOR_NO_REQUEST_LEFT, 26, PLACE, "a completion with no request left")                                        \
     X(CUZKELOR_COMPLETION_NOT_HELD, 27, PLACE, "a completion of a request whose block is not held")                    \
-    X(CUZKELOR_REQUESTS_LEFT, 28, PLACE, "the schedule ends with requests left")
+    X(CUZKELOR_REQUESTS_LEFT, 28, PLACE, "the schedule ends with requests left")                                       \
+    X(CUZKELOR_CACHE_NOT_EMPTY, 29, PLACE, "a clear is completed while that cache holds a block")
 
 #define CUZKELOR_ENUMERATOR(name, number, refused, text) name = number,
 enum cuzkelor_refusal { CUZKELOR_REFUSALS(CUZKELOR_ENUMERATOR) CUZKELOR_NO_REFUSAL = 0 };
@@ -69,7 +70,8 @@ enum cuzkelor_refusal { CUZKELOR_REFUSALS(CUZKELOR_ENUMERATOR) CUZKELOR_NO_REFUS
 /* The second of a request's four numbers. Any other number reads. */
 enum cuzkelor_operation {
     CUZKELOR_READ = 0,
-    CUZKELOR_WRITE = 1
+    CUZKELOR_WRITE = 1,
+    CUZKELOR_CLEAR = 2
 };
 
 /* The first of an entry's three numbers. Any other number completes by broadcast. */
@@ -158,16 +160,23 @@ size_t cuzkelor_look_length(uint32_t processors, uint32_t lines, uint32_t block_
                             const uint32_t *words, size_t words_length, uint32_t processor, uint32_t block);
 
 /* Serves requests in turn, to the first refused one, and adds to the account: 1 to its requests for each one taken, and
- * the cycles of each kind. A request is four numbers: processor, operation, variable, value (of a read it plays no
- * part). values has one word for each request, which gets the value supplied or written.
+ * the cycles of each kind. A request is four numbers: processor, operation, variable, value (of a read the value plays
+ * no part, of a clear neither it nor the variable). values has one word for each request, which gets the value supplied
+ * or written, for a clear 0.
  *
  * A write to a block that other caches hold too lowers the smallest of their counters by 1, of equal ones the lowest
- * processor's, and at 0 that line becomes empty. In versions 1 to 3 it was the lowest other holder's, whatever the
- * counters; tables and accounts that they left may be lent on.
+ * processor's, and at 0 that line becomes empty.
  *
- * Checks 1, 10, 2, 20, 21, then for each request 3, 4, 22. 2 also meets a list that is no whole number of requests, and
- * values of another length than the list. 21: fetch cycles over fetch_price x requests, write-back cycles over
- * write_back_price x requests, or update cycles over requests; no product overflows.
+ * A clear empties its processor's cache, so that the card can be swapped: from line 0 up, marked blocks are written
+ * back and every line becomes empty. No other cache changes.
+ *
+ * In versions 1 to 3 a write lowered the lowest other holder's counter, whatever the counters; in versions 1 to 4
+ * operation 2 read. Tables and accounts that they left may be lent on.
+ *
+ * Checks 1, 10, 2, 20, 21, then for each request 3, 4 (not of a clear), 22. 2 also meets a list that is no whole number
+ * of requests, and values of another length than the list. 21: fetch cycles over fetch_price x requests, write-back
+ * cycles over write_back_price x lines x requests, since a clear can write back every line, or update cycles over
+ * requests; no product overflows.
  *
  * No refusal: taken is the number of requests, place is 0. By 1, 10, 2, 20 or 21: taken and place are 0, nothing lent
  * changes. By 3, 4 or 22: taken and place are both the refused request's place; tables and account are as the requests
@@ -184,14 +193,15 @@ uint32_t cuzkelor_run(uint32_t processors, uint32_t lines, uint32_t block_words,
  * entry is three numbers: kind, processor, block; of a completion the last two play no part.
  *
  * Checks 1, 10, 2, 5; at each fetch 3, 8, 23; at each write-back 3, 8, 24; at each drop 3, 8, 24, 25; at each
- * completion 26, then of the request 3, 4, 9, 27; at the end 28. 2 also meets a list that is no whole number of entries
- * or of requests. 5 meets over 1,000,000 requests or 4,000,000 entries.
+ * completion 26, then of the request 3, 4 (not of a clear), 9, and 29 of a clear, 27 of any other; at the end 28. 2
+ * also meets a list that is no whole number of entries or of requests. 5 meets over 1,000,000 requests or 4,000,000
+ * entries.
  *
  * No refusal: place is 0, the tables show the rival's last copies, with empty lines all 0, and cost is the schedule's
  * cycles, the sum of its entries' costs: fetch_price for a fetch, write_back_price for a write-back, 0 for a drop and
- * for a completed read, 1 for a write completed by broadcast, and for a write completed otherwise 0 where its block has
- * one holder, else 1. By 1, 10, 2 or 5: place and cost are 0, no table changes. By any other: place is the entry's (28:
- * the number of entries), cost is 0, and the tables are all 0.
+ * for a completed read or clear, 1 for a write completed by broadcast, and for a write completed otherwise 0 where its
+ * block has one holder, else 1. By 1, 10, 2 or 5: place and cost are 0, no table changes. By any other: place is the
+ * entry's (28: the number of entries), cost is 0, and the tables are all 0.
  *
  * What a cost says of runs, the first of them on started tables, if the schedule is not refused for the requests that
  * they took, all in one list: the cycles that they added to the account are together at most twice the cost. Their
@@ -221,11 +231,12 @@ uint32_t cuzkelor_generate(uint32_t processors, uint32_t lines, uint32_t block_w
 /* Counts a whole din trace, with 4 processors, 8 lines, 4 words in a block, 64 blocks and both prices 4. It starts the
  * tables itself, and the account is written, not added to. A line is a label of one digit, blanks or tabs, an address
  * of 1 to 8 hexadecimal digits, and its end, or a blank, tab or carriage return and ignored text; it has at most 80
- * bytes without its newline, which the last line may lack. Labels 0 and 2 read, 1 writes the line's number, from 1. The
- * address's top byte is the processor, its low 24 bits divided by 4, rounded down, the variable. Who pays for a write is
- * said at cuzkelor_run: the counts of a trace may differ from those of versions 1 to 3.
+ * bytes without its newline, which the last line may lack. Labels 0 and 2 read, 1 writes the line's number, from 1, and
+ * 4 clears. The address's top byte is the processor, its low 24 bits divided by 4, rounded down, the variable; of a
+ * clear they play no part. What a clear does and who pays for a write is said at cuzkelor_run: the counts of a trace
+ * may differ from those of versions 1 to 3.
  *
- * Checks 2, then for each line 6, 7, 3, 4, 22, and stops at the first refused one.
+ * Checks 2, then for each line 6, 7, 3, 4 (not of a clear), 22, and stops at the first refused one.
  *
  * No refusal: line is 0. By 2: line and account are 0, no table changes. By any other: line is the refused line's
  * number, from 1; tables and account are as the lines before it left them. */
@@ -418,6 +429,11 @@ static inline cuzkelor_request cuzkelor_read(uint32_t processor, cuzkelor_variab
 
 static inline cuzkelor_request cuzkelor_write(uint32_t processor, cuzkelor_variable variable, uint32_t value) {
     cuzkelor_request request = {processor, CUZKELOR_WRITE, variable, value};
+    return request;
+}
+
+static inline cuzkelor_request cuzkelor_clear(uint32_t processor) {
+    cuzkelor_request request = {processor, CUZKELOR_CLEAR, {0}, 0};
     return request;
 }
 

@@ -1,4 +1,4 @@
-/* Plays the document's sessions, also at other prices, its printed trace, a look, a schedule and generated lists
+/* Plays the document's sessions, also at other prices, clears, its printed trace, a look, schedules and generated lists
  * through the archive from C or C++, and tests the header's numbers, words, lengths and ranges. */
 #include "../cuzkelor.h"
 #include <stdbool.h>
@@ -10,16 +10,18 @@ enum { N = 4, L = 8, P = 4, M = 64, SLOTS = CUZKELOR_SLOT_COUNT(N, L), GARBAGE =
 
 static const cuzkelor_setup SETUP = {N, L, P, M, P, P};
 static const cuzkelor_setup ONE_WORD = {N, L, 1, M, 1, 1};
+static const cuzkelor_setup ONE_CACHE = {1, CUZKELOR_MOST_LINES, 1, CUZKELOR_MOST_LINES, 32, 32};
 /* The pipelined bus of document 003, which charges the address cycle of a fetch. */
 static const cuzkelor_setup PIPELINED = {N, L, P, M, 5, 4};
 static const cuzkelor_setup NINE_PROCESSORS = {9, L, P, M, P, P};
 static const cuzkelor_setup DEAR_WRITE_BACK = {N, L, P, M, P, P + 1};
 static const cuzkelor_setup NINE_AND_DEAR = {9, L, P, M, P, P + 1};
 
-/* Tables and account of one host, with room for any setup up to SETUP's. */
+/* Tables and account of one host, with room for any setup up to SETUP's, and for ONE_CACHE. */
 struct host {
     cuzkelor_setup setup;
-    uint32_t blocks[SLOTS], counters[SLOTS], marks[SLOTS], words[CUZKELOR_WORD_COUNT(N, L, P)];
+    uint32_t blocks[CUZKELOR_MOST_LINES], counters[CUZKELOR_MOST_LINES], marks[CUZKELOR_MOST_LINES];
+    uint32_t words[CUZKELOR_WORD_COUNT(N, L, P)];
     uint32_t memory[CUZKELOR_VARIABLE_COUNT(P, M)];
     cuzkelor_account account;
 };
@@ -83,6 +85,11 @@ static void reads(struct host *h, uint32_t i, uint32_t variable, uint32_t value,
 
 static void writes(struct host *h, uint32_t i, uint32_t variable, uint32_t value, struct cycles cycles) {
     one(h, cuzkelor_write(i, cuzkelor_make_variable(variable), value), value, cycles);
+}
+
+static void clears(struct host *h, uint32_t i, uint32_t write_backs) {
+    struct cycles cycles = {0, write_backs * h->setup.write_back_price, 0};
+    one(h, cuzkelor_clear(i), 0, cycles);
 }
 
 static const struct cycles NOTHING = {0, 0, 0}, FETCH = {P, 0, 0}, UPDATE = {0, 0, 1};
@@ -258,6 +265,84 @@ static void prices(void) {
     sessions_at(most);
 }
 
+/* Marked blocks in lines 0 and 3, and an unmarked one in line 7 that another cache has too. */
+static void clear_of_three_blocks(void) {
+    struct host h = fresh(SETUP), after;
+    writes(&h, 1, 0, 7, FETCH);
+    writes(&h, 1, 13, 8, FETCH);
+    writes(&h, 1, 31, 6, FETCH);
+    reads(&h, 2, 31, 6, FETCH);
+    writes(&h, 2, 40, 9, FETCH);
+    after = h;
+    memset(after.blocks + L, 0, L * sizeof after.blocks[0]);
+    memset(after.counters + L, 0, L * sizeof after.counters[0]);
+    memset(after.marks + L, 0, L * sizeof after.marks[0]);
+    memset(after.words + L * P, 0, L * P * sizeof after.words[0]);
+    after.memory[0] = 7;
+    after.memory[13] = 8;
+    clears(&h, 1, 2);
+    after.account = h.account;
+    check(memcmp(&h, &after, sizeof h) == 0, "1's lines are empty, memory has the marked words");
+    clears(&h, 1, 0);
+    after.account = h.account;
+    check(memcmp(&h, &after, sizeof h) == 0, "an empty cache stays empty");
+}
+
+/* The last other holder is cleared, so that the next write is alone; its value outlives a clear. */
+static void clear_of_a_shared_block(void) {
+    struct host h = fresh(SETUP);
+    reads(&h, 0, 0, 0, FETCH);
+    reads(&h, 1, 0, 0, FETCH);
+    clears(&h, 0, 0);
+    check(line_0(&h, 0, 0, 0) && line_0(&h, 1, 4, 0), "only 0's copy is gone");
+    writes(&h, 1, 0, 5, NOTHING);
+    check(line_0(&h, 1, 4, 1), "marked");
+    clears(&h, 1, 1);
+    reads(&h, 0, 0, 5, FETCH);
+}
+
+static void refused_clears(void) {
+    struct host h = after_s3(), before;
+    uint32_t value = GARBAGE;
+    h.account.requests = CUZKELOR_MOST_REQUESTS;
+    before = h;
+    check(try_one(&h, cuzkelor_clear(N), &value).refusal == CUZKELOR_NO_SUCH_PROCESSOR, "3 comes before 22");
+    check(try_one(&h, cuzkelor_clear(0), &value).refusal == CUZKELOR_ACCOUNT_FULL, "22");
+    check(value == GARBAGE && memcmp(&h, &before, sizeof h) == 0, "nothing changes");
+}
+
+/* Any operation number but 1 and 2 reads; what a clear does not need plays no part. */
+static void operation_numbers(void) {
+    static const uint32_t reading[] = {0, 3, 4, UINT32_MAX};
+    struct host h = fresh(SETUP);
+    struct cycles write_back = {0, P, 0};
+    writes(&h, 0, 5, 9, FETCH);
+    for (size_t k = 0; k < sizeof reading / sizeof reading[0]; k++) {
+        cuzkelor_request request = {0, reading[k], {5}, 6};
+        one(&h, request, 9, NOTHING);
+    }
+    cuzkelor_request request = {0, CUZKELOR_CLEAR, {UINT32_MAX}, 6};
+    one(&h, request, 0, write_back);
+}
+
+/* Every line is marked, at the highest price, and the account is on the limit of 21, with one request to go. */
+static void most_write_back_cycles(void) {
+    struct host h = fresh(ONE_CACHE);
+    struct cycles fetch = {32, 0, 0};
+    cuzkelor_account nearly = {999999, 0, 2048 * 999999, 0};
+    uint32_t value;
+    for (uint32_t variable = 0; variable < CUZKELOR_MOST_LINES; variable++) {
+        writes(&h, 0, variable, variable + 1, fetch);
+    }
+    h.account = nearly;
+    clears(&h, 0, CUZKELOR_MOST_LINES);
+    check(h.account.write_back == 2048000000, "2,048,000,000 write-back cycles");
+    for (uint32_t variable = 0; variable < CUZKELOR_MOST_LINES; variable++) {
+        check(h.memory[variable] == variable + 1 && h.counters[variable] == 0, "written back and empty");
+    }
+    check(try_one(&h, cuzkelor_clear(0), &value).refusal == CUZKELOR_ACCOUNT_FULL, "then 22");
+}
+
 static bool possible(uint32_t requests, struct cycles cycles) {
     struct host h = fresh(PIPELINED);
     cuzkelor_account account = {requests, cycles.fetch, cycles.write_back, cycles.update};
@@ -270,18 +355,19 @@ static bool possible(uint32_t requests, struct cycles cycles) {
 }
 
 static void account_limits(void) {
-    static const uint32_t counts[] = {0, 1, 999999, 800000000};
+    static const uint32_t counts[] = {0, 1, 999999, UINT32_MAX / (4 * L)};
     for (size_t k = 0; k < sizeof counts / sizeof counts[0]; k++) {
         uint32_t requests = counts[k];
-        struct cycles most = {5 * requests, 4 * requests, requests}, fetch = most, write_back = most, update = most;
+        struct cycles most = {5 * requests, 4 * L * requests, requests}, fetch = most, write_back = most, update = most;
         fetch.fetch++;
         write_back.write_back++;
         update.update++;
         check(possible(requests, most) && !possible(requests, fetch), "5 fetch cycles a request");
-        check(!possible(requests, write_back) && !possible(requests, update), "4 write-back cycles, 1 update");
+        check(!possible(requests, write_back) && !possible(requests, update), "4 write-back cycles a line, 1 update");
     }
-    struct cycles any = {UINT32_MAX, UINT32_MAX, UINT32_MAX};
+    struct cycles any = {UINT32_MAX, UINT32_MAX, UINT32_MAX}, write_back = {0, UINT32_MAX, 0};
     check(possible(UINT32_MAX, any), "products over 32 bits");
+    check(possible(UINT32_MAX / (4 * L) + 1, write_back), "one that is 0 in 32 bits");
 }
 
 static void limits(void) {
@@ -311,10 +397,25 @@ static void printed_trace(void) {
     check(report.refusal == 0 && report.line == 0, "ended 0 0");
     check(memcmp(&report.account, &account, sizeof account) == 0, "the account");
     report = cuzkelor_count_din(&tables, "0 0\n3 0\n", 8);
-    check(report.refusal == CUZKELOR_UNKNOWN_LABEL && report.line == 2, "a label above 2");
+    check(report.refusal == CUZKELOR_UNKNOWN_LABEL && report.line == 2, "label 3");
     tables.memory.length--;
     report = cuzkelor_count_din(&tables, "x", 1);
     check(report.refusal == CUZKELOR_WRONG_LENGTH && report.line == 0, "memory too short");
+}
+
+/* Processor 2 has two marked blocks and an unmarked one, and is cleared by an address whose other bits are set. */
+static void traced_clears(void) {
+    static const char trace[] = "1 02000000\n1 02000010\n0 01000010\n1 02000020\n4 02ffffff\n0 02000000\n";
+    struct host h = fresh(cuzkelor_trace_setup());
+    cuzkelor_tables tables = tables_of(&h);
+    cuzkelor_report report = cuzkelor_count_din(&tables, trace, sizeof trace - 1);
+    cuzkelor_account account = {6, 20, 8, 0};
+    check(report.refusal == 0 && memcmp(&report.account, &account, sizeof account) == 0, "the account");
+    check(line_0(&h, 2, 4, 0) && h.counters[2 * L + 1] == 0 && h.memory[8] == 4, "cleared, then read");
+    report = cuzkelor_count_din(&tables, "4 04000000", 10);
+    check(report.refusal == CUZKELOR_NO_SUCH_PROCESSOR && report.line == 1, "processor 4");
+    report = cuzkelor_count_din(&tables, "5 00000000", 10);
+    check(report.refusal == CUZKELOR_UNKNOWN_LABEL && report.line == 1, "label 5");
 }
 
 static void a_look(void) {
@@ -354,6 +455,42 @@ static void a_schedule(void) {
     entries[7] = cuzkelor_write_back(1, zero);
     answer = cuzkelor_price_schedule(PIPELINED, &rival, entries, 8, requests, 3);
     check(answer.refusal == 0 && answer.cost == 16 + 4 && marks[L] == 0, "written back");
+}
+
+/* The answer where one cache holds a block and then a clear is completed. */
+static cuzkelor_price_answer priced_clear(uint32_t holder, uint32_t block, cuzkelor_entry completion, uint32_t i) {
+    uint32_t blocks[SLOTS], held[SLOTS], marks[SLOTS];
+    cuzkelor_rival rival = {CUZKELOR_LENT(blocks), CUZKELOR_LENT(held), CUZKELOR_LENT(marks)};
+    cuzkelor_entry entries[] = {cuzkelor_fetch(holder, cuzkelor_make_block(block)), completion};
+    cuzkelor_request request = cuzkelor_clear(i);
+    cuzkelor_price_answer answer = cuzkelor_price_schedule(PIPELINED, &rival, entries, 2, &request, 1);
+    check((held[holder * L + block] == 1) == (answer.refusal == 0), "tables all 0 if refused");
+    check(answer.place == (answer.refusal == 0 ? 0 : 1) && answer.cost == (answer.refusal == 0 ? 5 : 0), "the cost");
+    return answer;
+}
+
+static void schedules_with_clears(void) {
+    cuzkelor_entry broadcast = cuzkelor_complete_by_broadcast();
+    for (uint32_t line = 0; line < L; line++) {
+        for (uint32_t i = 0; i < N; i++) {
+            uint32_t refusal = i == 1 ? CUZKELOR_CACHE_NOT_EMPTY : CUZKELOR_NO_REFUSAL;
+            check(priced_clear(1, line, cuzkelor_complete(), i).refusal == refusal, "29 of the cache with the block");
+            check(priced_clear(1, line, broadcast, i).refusal == CUZKELOR_BROADCAST_WITHOUT_WRITE, "9 of any");
+        }
+        check(priced_clear(1, line, broadcast, N).refusal == CUZKELOR_NO_SUCH_PROCESSOR, "3 comes before 9");
+    }
+    uint32_t blocks[SLOTS], held[SLOTS], marks[SLOTS];
+    cuzkelor_rival rival = {CUZKELOR_LENT(blocks), CUZKELOR_LENT(held), CUZKELOR_LENT(marks)};
+    cuzkelor_block zero = cuzkelor_make_block(0);
+    cuzkelor_request requests[] = {cuzkelor_write(1, cuzkelor_make_variable(0), 5), cuzkelor_clear(1)};
+    cuzkelor_entry entries[] = {cuzkelor_fetch(1, zero), cuzkelor_complete(), cuzkelor_write_back(1, zero),
+                                cuzkelor_drop(1, zero), cuzkelor_complete()};
+    cuzkelor_price_answer answer = cuzkelor_price_schedule(PIPELINED, &rival, entries, 5, requests, 2);
+    check(answer.refusal == 0 && answer.cost == 5 + 0 + 4 + 0 + 0, "written back, dropped, cleared");
+    requests[1] = cuzkelor_clear(0);
+    entries[2] = cuzkelor_complete();
+    answer = cuzkelor_price_schedule(PIPELINED, &rival, entries, 3, requests, 2);
+    check(answer.refusal == 0 && answer.cost == 5 && marks[L] == 1, "another cache's mark stays");
 }
 
 /* What the archive writes in a run and a price over lists of so many numbers; the out-parameters hold garbage before.
@@ -502,6 +639,9 @@ static void the_longest_generated_list(void) {
     untouch();
     check(cuzkelor_generate_requests(SETUP, KNOWN_SEED, list, count) == CUZKELOR_NO_REFUSAL, "1,000,000 requests");
     check(!untouched_from(count - 1) && untouched_from(count), "all of them, and nothing past their end");
+    for (size_t k = 0; k < count; k++) {
+        check(list[k].operation == CUZKELOR_READ || list[k].operation == CUZKELOR_WRITE, "none of them clears");
+    }
     cuzkelor_run_answer answer = cuzkelor_run_requests(SETUP, &tables, &h.account, list, count, values, count);
     check(answer.refusal == CUZKELOR_NO_REFUSAL && answer.taken == count, "taken to the end");
     check(h.account.requests == count, "the account is full");
@@ -520,12 +660,12 @@ static void a_trace_refused_at_once(void) {
 }
 
 static void version(void) {
-    check(cuzkelor_version() == 4 && CUZKELOR_VERSION == 4, "version 4");
+    check(cuzkelor_version() == 5 && CUZKELOR_VERSION == 5, "version 5");
     check(cuzkelor_version_matches(), "the archive belongs to the header");
 }
 
 /* The document's numbers, and those by which nothing changes. */
-static bool is_refusal(uint32_t number) { return (1 <= number && number <= 11) || (20 <= number && number <= 28); }
+static bool is_refusal(uint32_t number) { return (1 <= number && number <= 11) || (20 <= number && number <= 29); }
 
 static bool of_call(uint32_t number) {
     return number == 1 || number == 2 || number == 5 || number == 10 || number == 11 || number == 20 || number == 21;
@@ -541,6 +681,7 @@ static void texts(void) {
     check(strcmp(cuzkelor_refusal_text(CUZKELOR_DROP_OF_MARKED), "a drop of a marked block") == 0, "25");
     check(CUZKELOR_SETUP_OUT_OF_RANGE == 1 && CUZKELOR_PRICE_OUT_OF_RANGE == 10, "names of 1 and 10");
     check(CUZKELOR_TOO_MANY == 5 && CUZKELOR_SEED_ZERO == 11, "names of 5 and 11");
+    check(CUZKELOR_BROADCAST_WITHOUT_WRITE == 9 && CUZKELOR_CACHE_NOT_EMPTY == 29, "names of 9 and 29");
     check(CUZKELOR_UNSOUND_TABLES == 20 && CUZKELOR_REQUESTS_LEFT == 28, "names of 20 and 28");
 }
 
@@ -590,11 +731,18 @@ int main(void) {
                  {"S11", s11},
                  {"S12", s12},
                  {"prices", prices},
+                 {"a clear of three blocks", clear_of_three_blocks},
+                 {"a clear of a shared block", clear_of_a_shared_block},
+                 {"refused clears", refused_clears},
+                 {"operation numbers", operation_numbers},
+                 {"the most write-back cycles", most_write_back_cycles},
                  {"account limits", account_limits},
                  {"limits", limits},
                  {"printed trace", printed_trace},
+                 {"traced clears", traced_clears},
                  {"a look", a_look},
                  {"a schedule", a_schedule},
+                 {"schedules with clears", schedules_with_clears},
                  {"whole lists", whole_lists},
                  {"a generated list", a_generated_list},
                  {"generated lists that depend on little", generated_lists_that_depend_on_little},

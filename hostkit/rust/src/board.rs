@@ -63,7 +63,7 @@ impl Board {
     }
 
     /// Serves the requests in turn, to the first refused one, and gives the value that each supplied
-    /// or wrote.
+    /// or wrote, for a clear 0.
     ///
     /// # Errors
     ///

@@ -53,11 +53,14 @@ pub fn look(setup: Setup, tables: &Tables, processor: u32, block: Block) -> &[u3
 }
 
 /// Serves the requests in turn, to the first refused one, and adds to the account. `values` has one
-/// word for each request, which gets the value supplied or written.
+/// word for each request, which gets the value supplied or written, for a clear 0.
 ///
 /// A write to a block that other caches hold too lowers the smallest of their counters by 1, of equal
 /// ones the lowest processor's, and at 0 that line becomes empty. (Up to version 0.3 it was the lowest
 /// other holder's, whatever the counters; tables and accounts of then may be used on.)
+///
+/// A clear empties its processor's cache, so that the card can be swapped: from line 0 up, marked
+/// blocks are written back and every line becomes empty. No other cache changes.
 ///
 /// ```
 /// use cuzkelor::{run, Account, Request, Tables, Variable, TRACE_SETUP};
@@ -69,6 +72,11 @@ pub fn look(setup: Setup, tables: &Tables, processor: u32, block: Block) -> &[u3
 /// run(TRACE_SETUP, &mut tables, &mut account, &requests, &mut values)?;
 /// assert_eq!(values, [7, 7]);
 /// assert_eq!(account.total(), 8);
+///
+/// let requests = [Request::write(1, Variable(32), 5), Request::clear(1)];
+/// run(TRACE_SETUP, &mut tables, &mut account, &requests, &mut values)?;
+/// assert_eq!(values, [5, 0]);
+/// assert_eq!((account.write_back, tables.memory[32]), (4, 5));
 /// # Ok::<(), Box<dyn std::error::Error>>(())
 /// ```
 ///
@@ -78,8 +86,9 @@ pub fn look(setup: Setup, tables: &Tables, processor: u32, block: Block) -> &[u3
 /// [`PriceOutOfRange`](Refusal::PriceOutOfRange), [`WrongLength`](Refusal::WrongLength) of a table or
 /// of the values, [`UnsoundTables`](Refusal::UnsoundTables),
 /// [`ImpossibleAccount`](Refusal::ImpossibleAccount): then nothing changes. For each request
-/// [`NoSuchProcessor`](Refusal::NoSuchProcessor), [`NoSuchVariable`](Refusal::NoSuchVariable),
-/// [`AccountFull`](Refusal::AccountFull): then everything is as the requests before it left it.
+/// [`NoSuchProcessor`](Refusal::NoSuchProcessor), [`NoSuchVariable`](Refusal::NoSuchVariable) unless
+/// it is a clear, [`AccountFull`](Refusal::AccountFull): then everything is as the requests before it
+/// left it.
 ///
 /// # Panics
 ///

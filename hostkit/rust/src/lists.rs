@@ -1,11 +1,13 @@
 use crate::raw::{
-    CUZKELOR_COMPLETE, CUZKELOR_COMPLETE_BY_BROADCAST, CUZKELOR_DROP, CUZKELOR_ENTRY_NUMBERS,
-    CUZKELOR_FETCH, CUZKELOR_READ, CUZKELOR_REQUEST_NUMBERS, CUZKELOR_WRITE, CUZKELOR_WRITE_BACK,
+    CUZKELOR_CLEAR, CUZKELOR_COMPLETE, CUZKELOR_COMPLETE_BY_BROADCAST, CUZKELOR_DROP,
+    CUZKELOR_ENTRY_NUMBERS, CUZKELOR_FETCH, CUZKELOR_READ, CUZKELOR_REQUEST_NUMBERS,
+    CUZKELOR_WRITE, CUZKELOR_WRITE_BACK,
 };
 use crate::{Block, Variable};
 use std::{fmt, slice};
 
-/// What one processor asks for: a read of a variable, or a write of a variable with its value.
+/// What one processor asks for: a read of a variable, a write of a variable with its value, or a
+/// clear of its cache.
 ///
 /// It is laid out as the archive's four numbers, so that a slice of requests is lent as it lies.
 ///
@@ -15,6 +17,7 @@ use std::{fmt, slice};
 /// let request = Request::write(1, Variable(3), 7);
 /// assert_eq!(request.processor(), 1);
 /// assert_eq!(request.operation(), Operation::Write(Variable(3), 7));
+/// assert_eq!(Request::clear(1).variable(), None);
 /// ```
 #[derive(Clone, Copy, PartialEq, Eq, Hash)]
 #[repr(C)]
@@ -32,6 +35,8 @@ pub enum Operation {
     Read(Variable),
     /// Writes a value to a variable.
     Write(Variable, u32),
+    /// Empties the processor's cache.
+    Clear,
 }
 
 /// One entry of a rival's schedule: an action of a processor on a block, or the completion of the
@@ -99,16 +104,30 @@ impl Request {
         }
     }
 
+    /// A processor's cache is cleared.
+    #[must_use]
+    pub const fn clear(processor: u32) -> Request {
+        Request {
+            processor,
+            operation: CUZKELOR_CLEAR,
+            variable: Variable(0),
+            value: 0,
+        }
+    }
+
     /// The processor that asks.
     #[must_use]
     pub const fn processor(self) -> u32 {
         self.processor
     }
 
-    /// The variable that is read or written.
+    /// The variable that is read or written; a clear names none.
     #[must_use]
-    pub const fn variable(self) -> Variable {
-        self.variable
+    pub const fn variable(self) -> Option<Variable> {
+        match self.operation() {
+            Operation::Read(variable) | Operation::Write(variable, _) => Some(variable),
+            Operation::Clear => None,
+        }
     }
 
     /// What is asked for.
@@ -116,6 +135,7 @@ impl Request {
     pub const fn operation(self) -> Operation {
         match self.operation {
             CUZKELOR_WRITE => Operation::Write(self.variable, self.value),
+            CUZKELOR_CLEAR => Operation::Clear,
             _ => Operation::Read(self.variable),
         }
     }
@@ -128,6 +148,7 @@ impl Request {
     ///
     /// let requests = [Request::read(2, Variable(5)), Request::write(1, Variable(3), 7)];
     /// assert_eq!(Request::numbers(&requests), [2, 0, 5, 0, 1, 1, 3, 7]);
+    /// assert_eq!(Request::numbers(&[Request::clear(3)]), [3, 2, 0, 0]);
     /// ```
     #[must_use]
     pub const fn numbers(requests: &[Request]) -> &[u32] {

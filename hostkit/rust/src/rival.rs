@@ -33,8 +33,10 @@ use crate::{Entry, PriceError, Refusal, Request, RivalTables, Setup};
 /// [`LineInUse`](Refusal::LineInUse) of a fetch, [`BlockNotHeld`](Refusal::BlockNotHeld) of the
 /// others, [`DropOfMarked`](Refusal::DropOfMarked); at each completion
 /// [`NoRequestLeft`](Refusal::NoRequestLeft), [`NoSuchProcessor`](Refusal::NoSuchProcessor),
-/// [`NoSuchVariable`](Refusal::NoSuchVariable), [`ReadByBroadcast`](Refusal::ReadByBroadcast),
-/// [`CompletionNotHeld`](Refusal::CompletionNotHeld); at the end
+/// [`NoSuchVariable`](Refusal::NoSuchVariable),
+/// [`BroadcastWithoutWrite`](Refusal::BroadcastWithoutWrite), and
+/// [`CacheNotEmpty`](Refusal::CacheNotEmpty) of a clear,
+/// [`CompletionNotHeld`](Refusal::CompletionNotHeld) of the others; at the end
 /// [`RequestsLeft`](Refusal::RequestsLeft): then the tables are all 0.
 ///
 /// # Panics

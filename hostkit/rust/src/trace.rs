@@ -2,8 +2,8 @@ use crate::archive::check_version;
 use crate::{raw, Account, Refusal, Tables, TraceError};
 
 /// Counts a whole din trace over tables of [`TRACE_SETUP`](crate::TRACE_SETUP), which it starts
-/// itself. Who pays for a write is said at [`run`](crate::run): the counts of a trace may differ from
-/// those up to version 0.3.
+/// itself. Labels 0 and 2 read, 1 writes and 4 clears. What a clear does and who pays for a write is
+/// said at [`run`](crate::run): the counts of a trace may differ from those up to version 0.3.
 ///
 /// ```
 /// use cuzkelor::{count_trace, Tables, TRACE_SETUP};
@@ -13,7 +13,10 @@ use crate::{raw, Account, Refusal, Tables, TraceError};
 /// assert_eq!((account.fetch, account.write_back, account.update), (8, 0, 2));
 ///
 /// let error = count_trace(b"0 0\n3 0\n", &mut tables).unwrap_err();
-/// assert_eq!(error.to_string(), "refused by 7 at line 2: a trace label is a digit above 2");
+/// assert_eq!(
+///     error.to_string(),
+///     "refused by 7 at line 2: a trace label is a digit above 2 other than 4"
+/// );
 /// assert_eq!(error.account.requests, 1);
 /// # Ok::<(), Box<dyn std::error::Error>>(())
 /// ```

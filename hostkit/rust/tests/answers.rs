@@ -7,8 +7,8 @@ use cuzkelor::{
 use std::error::Error;
 
 /// The numbers of the document, and those that refuse the call as a whole.
-const NUMBERS: [u32; 20] = [
-    1, 2, 3, 4, 5, 6, 7, 8, 9, 10, 11, 20, 21, 22, 23, 24, 25, 26, 27, 28,
+const NUMBERS: [u32; 21] = [
+    1, 2, 3, 4, 5, 6, 7, 8, 9, 10, 11, 20, 21, 22, 23, 24, 25, 26, 27, 28, 29,
 ];
 const OF_CALLS: [u32; 7] = [1, 2, 5, 10, 11, 20, 21];
 
@@ -81,6 +81,17 @@ fn price_errors() {
         refused(&[Entry::fetch(0, Block(3))], &[read]),
         "refused by 28 at place 1: the schedule ends with requests left"
     );
+    let clear = Request::clear(0);
+    assert_eq!(
+        refused(&[Entry::fetch(0, Block(3)), Entry::COMPLETE], &[clear]),
+        "refused by 29 at place 1: a clear is completed while that cache holds a block"
+    );
+    for request in [read, clear] {
+        assert_eq!(
+            refused(&[Entry::COMPLETE_BY_BROADCAST], &[request]),
+            "refused by 9 at place 0: a read or a clear is completed by broadcast"
+        );
+    }
     assert_eq!(
         refused(&[], &vec![read; 1_000_001]),
         "refused by 5: over 1,000,000 requests to the pricer or generator, or 4,000,000 entries"
@@ -116,7 +127,7 @@ fn trace_errors() {
 fn version() {
     // SAFETY: takes nothing.
     let archive = unsafe { raw::cuzkelor_version() };
-    assert_eq!((archive, raw::CUZKELOR_VERSION), (4, 4));
+    assert_eq!((archive, raw::CUZKELOR_VERSION), (5, 5));
 }
 
 #[test]
@@ -124,12 +135,19 @@ fn lists_read_back() {
     let requests = [
         Request::read(1, Variable(2)),
         Request::write(3, Variable(4), 5),
+        Request::clear(6),
     ];
-    assert_eq!(requests[0].operation(), Operation::Read(Variable(2)));
-    assert_eq!(requests[1].operation(), Operation::Write(Variable(4), 5));
-    let who: Vec<u32> = requests.iter().map(|request| request.processor()).collect();
-    assert_eq!(who, [1, 3]);
-    assert_eq!(Request::numbers(&requests), [1, 0, 2, 0, 3, 1, 4, 5]);
+    let operations = [
+        Operation::Read(Variable(2)),
+        Operation::Write(Variable(4), 5),
+        Operation::Clear,
+    ];
+    assert_eq!(requests.map(Request::operation), operations);
+    assert_eq!(requests.map(Request::processor), [1, 3, 6]);
+    let variables = [Some(Variable(2)), Some(Variable(4)), None];
+    assert_eq!(requests.map(Request::variable), variables);
+    let numbers = [1, 0, 2, 0, 3, 1, 4, 5, 6, 2, 0, 0];
+    assert_eq!(Request::numbers(&requests), numbers);
     let actions = [
         Action::Fetch(1, Block(2)),
         Action::WriteBack(3, Block(4)),
@@ -155,6 +173,10 @@ fn records_as_text() {
     assert_eq!(
         format!("{request:?} {:?}", Entry::COMPLETE),
         "Request { processor: 3, operation: Write(Variable(4), 5) } Entry(Complete)"
+    );
+    assert_eq!(
+        format!("{:?}", Request::clear(3)),
+        "Request { processor: 3, operation: Clear }"
     );
 }
 

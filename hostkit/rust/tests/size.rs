@@ -26,7 +26,8 @@ fn request(place: u32) -> Request {
 /// Four entries that serve a request and leave the caches empty again, at 32 + 0 + 31 + 0 cycles.
 fn round(place: u32) -> [Entry; 4] {
     let request = request(place);
-    let (i, block) = (request.processor(), SETUP.block_of(request.variable()));
+    let variable = request.variable().expect("no clear");
+    let (i, block) = (request.processor(), SETUP.block_of(variable));
     [
         Entry::fetch(i, block),
         Entry::COMPLETE,

@@ -5,6 +5,9 @@ use cuzkelor::{Account, Setup, Tables};
 
 const LIMIT: u32 = 1_000_000;
 
+const WRITE: u32 = 1;
+const CLEAR: u32 = 2;
+
 /// The tables, with the setup's sizes as indices and its prices as cycles.
 struct Board<'a> {
     n: usize,
@@ -144,6 +147,19 @@ impl Board<'_> {
         }
     }
 
+    /// Apart from the path of reads and writes, which is what is timed.
+    #[cold]
+    fn clear(&mut self, i: usize, bill: &mut Account) -> u32 {
+        for slot in i * self.l..(i + 1) * self.l {
+            if self.marks[slot] != 0 {
+                self.save(slot);
+                bill.write_back += self.write_back_price;
+            }
+            self.empty(slot);
+        }
+        0
+    }
+
     #[inline]
     fn place(&self, variable: u32) -> Place {
         let (l, p) = (self.l as u32, self.p as u32);
@@ -158,12 +174,15 @@ impl Board<'_> {
     #[inline]
     fn serve(&mut self, request: &[u32], bill: &mut Account) -> u32 {
         let i = request[0] as usize;
+        if request[1] == CLEAR {
+            return self.clear(i, bill);
+        }
         let at = self.place(request[2]);
         let slot = i * self.l + at.line;
         if !self.holds(slot, at.block) {
             self.fetch(i, at.line, at.block, bill);
         }
-        if request[1] == 1 {
+        if request[1] == WRITE {
             self.write(i, at, request[3], bill);
             return request[3];
         }
@@ -172,9 +191,9 @@ impl Board<'_> {
 }
 
 fn impossible(setup: Setup, account: &Account) -> bool {
-    let most = |price: u32| u64::from(price) * u64::from(account.requests);
+    let most = |cycles: u32| u64::from(cycles) * u64::from(account.requests);
     u64::from(account.fetch) > most(setup.fetch_price)
-        || u64::from(account.write_back) > most(setup.write_back_price)
+        || u64::from(account.write_back) > most(setup.write_back_price * setup.lines)
         || account.update > account.requests
 }
 
@@ -218,7 +237,7 @@ pub fn run(
     for (place, request) in requests.chunks_exact(4).enumerate() {
         let refusal = match request {
             [processor, ..] if *processor >= setup.processors => 3,
-            [_, _, variable, _] if *variable >= variables => 4,
+            [_, operation, variable, _] if *variable >= variables && *operation != CLEAR => 4,
             _ if account.requests >= LIMIT => 22,
             _ => 0,
         };

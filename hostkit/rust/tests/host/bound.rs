@@ -3,7 +3,7 @@
 use crate::draw::Draw;
 use crate::model::{Ask, Board, Caches, Ledger, Move, Rival};
 use crate::rivals::{accepted_cost, engine_moves, Closeness};
-use crate::tally::Prices;
+use crate::tally::{Clears, Prices};
 use std::collections::{BTreeMap, BTreeSet};
 
 /// A rival's position: its copies, and the requests completed.
@@ -105,7 +105,8 @@ fn bill(board: Board, asks: &[Ask]) -> Ledger {
 fn cheapest_schedules() {
     let mut draw = Draw::for_test("cheapest schedules");
     let (mut closeness, mut prices) = (Closeness::default(), Prices::default());
-    for _ in 0..300 {
+    let mut clears = Clears::default();
+    for _ in 0..600 {
         let f = draw.within(1, 4);
         let board = Board {
             n: draw.within(2, 3),
@@ -117,7 +118,11 @@ fn cheapest_schedules() {
         };
         prices.count(board);
         let count = draw.index(13);
-        let asks = draw.asks(board, count);
+        let asks = match draw.chance(50) {
+            true => draw.asks(board, count),
+            false => draw.bursts(board, count),
+        };
+        clears.count(board, &asks);
         let bill = bill(board, &asks);
         let [least, least_but_write_backs] = [all, fetch_and_update].map(|counted: Counted| {
             let moves = cheapest(board, counted, &asks);
@@ -133,20 +138,24 @@ fn cheapest_schedules() {
     }
     closeness.print("cheapest schedules");
     prices.close("cheapest schedules");
+    clears.close("cheapest schedules");
 }
 
 /// The engine's own actions are a legal schedule at its own bill.
 #[test]
 fn engine_as_a_rival() {
     let mut draw = Draw::for_test("engine as a rival");
+    let mut clears = Clears::default();
     for _ in 0..1_000 {
         let board = draw.board();
         let count = draw.index(120);
         let asks = draw.asks(board, count);
+        clears.count(board, &asks);
         let moves = engine_moves(board, &asks);
         let cost = accepted_cost(&mut draw, board, &moves, &asks);
         let bill = bill(board, &asks);
         assert_eq!(cost.cycles, bill.cycles(), "on {board:?} for {asks:?}");
         assert_eq!(cost.fetch_and_update, bill.fetch + bill.update);
     }
+    clears.close("engine as a rival");
 }

@@ -1,6 +1,6 @@
 //! A deterministic generator (xorshift64*), so that a failure comes again from its printed seed.
 
-use crate::model::{Ask, Board};
+use crate::model::{Ask, Board, Operation};
 
 /// A board before its prices are drawn, which go by its words in a block.
 const UNPRICED: Board = Board {
@@ -161,26 +161,52 @@ impl Draw {
             .collect()
     }
 
-    fn ask(&mut self, board: Board, hot: &[u32], writes: u32) -> Ask {
+    fn ask(&mut self, board: Board, hot: &[u32], writes: u32, clears: u32) -> Ask {
+        let processor = self.below(board.n);
+        if self.chance(clears) {
+            return Ask::clear(processor);
+        }
         let block = match self.chance(90) {
             true => self.pick(hot),
             false => self.below(board.m),
         };
-        Ask {
-            processor: self.below(board.n),
-            variable: block * board.p + self.below(board.p),
-            write: self.chance(writes).then(|| self.value()),
+        let variable = block * board.p + self.below(board.p);
+        match self.chance(writes) {
+            true => Ask::write(processor, variable, self.value()),
+            false => Ask::read(processor, variable),
         }
     }
 
-    /// Requests that none of 3 and 4 meets.
+    /// Requests that none of 3 and 4 meets; in most lists some of them clear.
     pub fn asks(&mut self, board: Board, count: usize) -> Vec<Ask> {
         let hot = self.hot_blocks(board);
         let writes = self.pick(&[5, 30, 60, 95]);
-        (0..count).map(|_| self.ask(board, &hot, writes)).collect()
+        let clears = self.pick(&[0, 3, 15]);
+        (0..count)
+            .map(|_| self.ask(board, &hot, writes, clears))
+            .collect()
     }
 
-    /// Makes one request meet 3, 4 or both.
+    /// Such requests in bursts of one processor each, which a clear often ends: its cache may then have
+    /// several marked blocks.
+    pub fn bursts(&mut self, board: Board, count: usize) -> Vec<Ask> {
+        let blocks: Vec<u32> = (0..board.m).collect();
+        let mut asks = Vec::new();
+        while asks.len() < count {
+            let processor = self.below(board.n);
+            for _ in 0..self.within(1, 5) {
+                let ask = self.ask(board, &blocks, 80, 0);
+                asks.push(Ask { processor, ..ask });
+            }
+            if self.chance(60) {
+                asks.push(Ask::clear(processor));
+            }
+        }
+        asks.truncate(count);
+        asks
+    }
+
+    /// Makes one request meet 3, 4 or both; a clear, which names no variable, 3.
     pub fn spoil(&mut self, board: Board, asks: &mut [Ask]) {
         if asks.is_empty() {
             return;
@@ -189,11 +215,15 @@ impl Draw {
         let bad_processor = self.pick(&[board.n, board.n + 1, u32::MAX]);
         let bad_variable = self.pick(&[board.m * board.p, board.m * board.p + 1, u32::MAX]);
         let which = self.below(3);
-        if which != 1 {
-            asks[at].processor = bad_processor;
+        let ask = &mut asks[at];
+        if which != 1 || ask.operation == Operation::Clear {
+            ask.processor = bad_processor;
         }
-        if which != 0 {
-            asks[at].variable = bad_variable;
+        match &mut ask.operation {
+            Operation::Read(variable) | Operation::Write(variable, _) if which != 0 => {
+                *variable = bad_variable;
+            }
+            _ => {}
         }
     }
 

@@ -1,7 +1,7 @@
 //! From the model's words to what the archive is lent.
 
 use crate::draw::Draw;
-use crate::model::{sizes, Ask, Board, Ledger, Move};
+use crate::model::{sizes, Ask, Board, Ledger, Move, Operation};
 use cuzkelor::{Account, Block, Entry, Refusal, Request, RivalTables, Setup, Tables, Variable};
 
 /// The refusal number, 0 for none.
@@ -74,10 +74,12 @@ pub fn ledger(account: Account) -> Ledger {
 }
 
 fn request(ask: &Ask) -> Request {
-    let variable = Variable(ask.variable);
-    match ask.write {
-        Some(value) => Request::write(ask.processor, variable, value),
-        None => Request::read(ask.processor, variable),
+    match ask.operation {
+        Operation::Read(variable) => Request::read(ask.processor, Variable(variable)),
+        Operation::Write(variable, value) => {
+            Request::write(ask.processor, Variable(variable), value)
+        }
+        Operation::Clear => Request::clear(ask.processor),
     }
 }
 
@@ -85,16 +87,17 @@ pub fn requests(asks: &[Ask]) -> Vec<Request> {
     asks.iter().map(request).collect()
 }
 
-/// The same requests in other numbers: any operation but 1 reads, whatever its value is.
+/// The same requests in other numbers: any operation but 1 and 2 reads, whatever its value is, and a
+/// clear has any variable and any value.
 pub fn odd_requests(draw: &mut Draw, asks: &[Ask]) -> Vec<u32> {
     let mut numbers = Vec::new();
     for ask in asks {
-        let operation = draw.pick(&[0, 2, 3, u32::MAX]);
-        let (operation, value) = match ask.write {
-            Some(value) => (1, value),
-            None => (operation, draw.word()),
+        let [operation, variable, value] = match ask.operation {
+            Operation::Read(variable) => [draw.pick(&[0, 3, 4, u32::MAX]), variable, draw.word()],
+            Operation::Write(variable, value) => [1, variable, value],
+            Operation::Clear => [2, draw.pick(&[0, 1, u32::MAX]), draw.word()],
         };
-        numbers.extend([ask.processor, operation, ask.variable, value]);
+        numbers.extend([ask.processor, operation, variable, value]);
     }
     numbers
 }

@@ -4,12 +4,15 @@
 
 mod boards;
 mod bound;
+mod clears;
 mod damage;
 mod draw;
 mod generated;
 mod lend;
 mod looks;
 mod model;
+#[path = "../../examples/bench/plain.rs"]
+mod plain;
 mod rivals;
 mod runs;
 mod schedules;

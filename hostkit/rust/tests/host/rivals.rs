@@ -35,7 +35,7 @@ impl Composer<'_> {
         self.moves.push(entry);
     }
 
-    fn clear(&mut self, i: u32, block: u32) {
+    fn evict(&mut self, i: u32, block: u32) {
         if self.rival.copies[&(i, block)] {
             self.push(Move::WriteBack(i, block));
         }
@@ -47,20 +47,23 @@ impl Composer<'_> {
             return;
         }
         if let Some(old) = self.rival.in_the_way(i, block) {
-            self.clear(i, old);
+            self.evict(i, old);
         }
         self.push(Move::Fetch(i, block));
     }
 
-    /// Whether updates of j's copy until its next use cost more than a fetch.
+    /// Whether updates of j's copy until its next use cost more than a fetch, or a clear of j's cache
+    /// comes before that use.
     fn worth_dropping(&self, j: u32, block: u32) -> bool {
-        let uses = |ask: &&Ask| self.rival.board.home(ask.variable).0 == block;
         let mut updates = 0;
-        for ask in self.asks[self.done..].iter().filter(uses) {
-            if ask.processor == j {
-                return updates > self.rival.board.f;
+        for ask in &self.asks[self.done..] {
+            let own = ask.processor == j;
+            match self.rival.board.block_of(ask) {
+                None if own => return true,
+                Some(used) if used == block && own => return updates > self.rival.board.f,
+                Some(used) if used == block => updates += u32::from(ask.writes()),
+                _ => {}
             }
-            updates += u32::from(ask.write.is_some());
         }
         true
     }
@@ -77,7 +80,7 @@ impl Composer<'_> {
     fn thin_out(&mut self, i: u32, block: u32) {
         for j in self.rival.holders(block) {
             if j != i && self.drops(j, block) {
-                self.clear(j, block);
+                self.evict(j, block);
             }
         }
     }
@@ -108,13 +111,19 @@ impl Composer<'_> {
     }
 
     fn serve(&mut self, ask: &Ask) {
-        let (block, _) = self.rival.board.home(ask.variable);
+        let i = ask.processor;
         self.idle_entries();
-        self.obtain(ask.processor, block);
-        if ask.write.is_none() {
+        let Some(block) = self.rival.board.block_of(ask) else {
+            for block in self.rival.blocks_of(i) {
+                self.evict(i, block);
+            }
+            return self.push(Move::Complete);
+        };
+        self.obtain(i, block);
+        if !ask.writes() {
             return self.push(Move::Complete);
         }
-        self.thin_out(ask.processor, block);
+        self.thin_out(i, block);
         match self.draw.chance(self.broadcasts) {
             true => self.push(Move::Broadcast),
             false => self.push(Move::Complete),
@@ -162,18 +171,21 @@ pub fn some_legal(draw: &mut Draw, board: Board, asks: &[Ask]) -> Vec<Vec<Move>>
     ]
 }
 
-/// The engine's own actions as a schedule.
+/// The engine's own actions as a schedule: what leaves a cache goes from line 0 up, and the payer's
+/// copy goes after the write.
 pub fn engine_moves(board: Board, asks: &[Ask]) -> Vec<Move> {
     let mut caches = Caches::fresh(board);
     let mut moves = Vec::new();
     for ask in asks {
-        let (block, _) = board.home(ask.variable);
+        let used = board.block_of(ask);
         let before = caches.clone();
         caches.serve(ask);
         let gone = |key: &&(u32, u32)| !caches.copies.contains_key(key);
+        let mut gone: Vec<_> = before.copies.keys().filter(gone).collect();
+        gone.sort_by_key(|&&(_, old)| board.line(old));
         let mut left = Vec::new();
-        for &(i, old) in before.copies.keys().filter(gone) {
-            if old == block {
+        for &(i, old) in gone {
+            if Some(old) == used {
                 left.push(Move::Drop(i, old));
                 continue;
             }
@@ -182,7 +194,8 @@ pub fn engine_moves(board: Board, asks: &[Ask]) -> Vec<Move> {
             }
             moves.push(Move::Drop(i, old));
         }
-        if !before.copies.contains_key(&(ask.processor, block)) {
+        let missed = |&block: &u32| !before.copies.contains_key(&(ask.processor, block));
+        if let Some(block) = used.filter(missed) {
             moves.push(Move::Fetch(ask.processor, block));
         }
         moves.push(Move::Complete);

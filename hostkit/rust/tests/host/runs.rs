@@ -3,9 +3,10 @@
 
 use crate::draw::Draw;
 use crate::lend;
-use crate::model::{count, read, shown, sizes, Ask, Board, Caches, Ledger, Outcome};
+use crate::model::{count, read, shown, sizes, Ask, Board, Caches, Ledger, Operation, Outcome};
+use crate::plain;
 use crate::rivals::{self, Closeness};
-use crate::tally::{Prices, Tally};
+use crate::tally::{Clears, Prices, Tally};
 use cuzkelor::{raw, Account, Request, Tables};
 use std::collections::BTreeMap;
 
@@ -164,7 +165,7 @@ fn possible_account(draw: &mut Draw, board: Board, requests: u32) -> Account {
     Account {
         requests,
         fetch: possible_cycles(draw, requests.saturating_mul(board.f)),
-        write_back: possible_cycles(draw, requests.saturating_mul(board.g)),
+        write_back: possible_cycles(draw, requests.saturating_mul(board.g * board.l)),
         update: possible_cycles(draw, requests),
     }
 }
@@ -192,7 +193,7 @@ fn impossible_account(draw: &mut Draw, board: Board) -> Account {
     let mut account = possible_account(draw, board, requests);
     let over = |most: u64| u32::try_from(most + 1).ok();
     let [over_fetch, over_write_back] =
-        [board.f, board.g].map(|price| over(u64::from(price) * u64::from(requests)));
+        [board.f, board.g * board.l].map(|most| over(u64::from(most) * u64::from(requests)));
     match (draw.below(3), over_fetch, over_write_back) {
         (0, Some(cycles), _) => account.fetch = draw.pick(&[cycles, u32::MAX]),
         (1, _, Some(cycles)) => account.write_back = draw.pick(&[cycles, u32::MAX]),
@@ -296,13 +297,17 @@ impl List {
         outcome
     }
 
-    /// Each read supplies the last value written, or 0.
+    /// Each read supplies the last value written, or 0; a clear gives 0.
     fn last_values(&mut self, asks: &[Ask], values: &[u32]) {
         for (ask, &value) in asks.iter().zip(values) {
-            if let Some(written) = ask.write {
-                self.current.insert(ask.variable, written);
-            }
-            let last = self.current.get(&ask.variable).copied().unwrap_or(0);
+            let last = match ask.operation {
+                Operation::Read(variable) => self.current.get(&variable).copied().unwrap_or(0),
+                Operation::Write(variable, written) => {
+                    self.current.insert(variable, written);
+                    written
+                }
+                Operation::Clear => 0,
+            };
             assert_eq!(value, last, "the last value written, at {ask:?}");
         }
     }
@@ -368,7 +373,7 @@ impl List {
 fn lists_of_runs() {
     let mut draw = Draw::for_test("lists of runs");
     let (mut tally, mut closeness) = (Tally::default(), Closeness::default());
-    let mut prices = Prices::default();
+    let (mut prices, mut clears) = (Prices::default(), Clears::default());
     let (mut lists, mut requests) = (0, 0);
     while lists < 4_000 {
         let mut list = List::start(&mut draw);
@@ -381,32 +386,34 @@ fn lists_of_runs() {
             tally.count(outcome.refusal);
         }
         list.bound(&mut draw, &mut closeness);
+        clears.count(list.board, &list.taken);
         lists += 1;
         requests += list.taken.len();
     }
     println!("lists of runs: {lists} lists, {requests} requests taken");
     closeness.print("lists of runs");
     prices.close("lists of runs");
+    clears.close("lists of runs");
     tally.close("lists of runs", &[0, 1, 2, 3, 4, 10, 20, 21, 22]);
+}
+
+/// Started tables, an account, and room for so many values.
+fn started(board: Board, account: Account, values: usize) -> Lent {
+    Lent {
+        tables: shown(&Caches::fresh(board)),
+        account,
+        values: vec![7; values],
+    }
 }
 
 /// A list of any length on its own: 2 unless it is whole and has as many values.
 #[test]
 fn whole_lists() {
     let board = count(b"").caches.board;
-    let read = Ask {
-        processor: 0,
-        variable: 0,
-        write: None,
-    };
     for (length, values) in (0..=12).flat_map(|length| [0, 1, 2, 3].map(|values| (length, values)))
     {
-        let mut lent = Lent {
-            tables: shown(&Caches::fresh(board)),
-            account: Account::default(),
-            values: vec![7; values],
-        };
-        let asks = vec![read; length / 4];
+        let mut lent = started(board, Account::default(), values);
+        let asks = vec![Ask::read(0, 0); length / 4];
         let outcome = compared_numbers(board, &mut lent, &asks, &vec![0; length]);
         let refusal = if length == 4 * values { 0 } else { 2 };
         assert_eq!(
@@ -414,6 +421,66 @@ fn whole_lists() {
             "{length} numbers, {values} values"
         );
     }
+}
+
+/// Any operation number but 1 and 2 reads, whatever its value is; of a clear neither the variable nor
+/// the value plays a part.
+#[test]
+fn operation_numbers() {
+    let board = count(b"").caches.board;
+    let mut lent = started(board, Account::default(), 1);
+    let mut value_of = |numbers: [u32; 4], ask: Ask| {
+        let outcome = compared_numbers(board, &mut lent, &[ask], &numbers);
+        assert_eq!(outcome.taken, 1, "{numbers:?}");
+        lent.values[0]
+    };
+    for (variable, value) in [(0, 0), (5, 6), (255, 1), (256, 1), (u32::MAX, u32::MAX)] {
+        assert_eq!(value_of([0, 1, 5, 9], Ask::write(0, 5, 9)), 9);
+        for operation in [0, 3, 4, u32::MAX - 1, u32::MAX] {
+            let read = value_of([0, operation, 5, value], Ask::read(0, 5));
+            assert_eq!(read, 9, "operation {operation}");
+        }
+        assert_eq!(value_of([0, 2, variable, value], Ask::clear(0)), 0);
+    }
+}
+
+/// The plain engine of the bench does what the archive does, also with clears, which no timed list
+/// has.
+#[test]
+fn plain_engine() {
+    let mut draw = Draw::for_test("plain engine");
+    let mut tally = Tally::default();
+    for _ in 0..2_000 {
+        let board = draw.board();
+        let account = match draw.chance(10) {
+            true => impossible_account(&mut draw, board),
+            false => first_account(&mut draw, board),
+        };
+        let count = length_of_run(&mut draw);
+        let mut asks = draw.asks(board, count);
+        if draw.chance(25) {
+            draw.spoil(board, &mut asks);
+        }
+        let numbers = lend::odd_requests(&mut draw, &asks);
+        let mut lent = started(board, account, count);
+        let mut same = lent.clone();
+        let (taken, refusal, place) = plain::run(
+            lend::setup(board),
+            &mut same.tables,
+            &mut same.account,
+            &numbers,
+            &mut same.values,
+        );
+        let outcome = compared_numbers(board, &mut lent, &asks, &numbers);
+        let answered = Outcome {
+            taken,
+            refusal,
+            place,
+        };
+        assert_eq!((answered, same), (outcome, lent), "{board:?}, {asks:?}");
+        tally.count(refusal);
+    }
+    tally.close("plain engine", &[0, 3, 4, 21, 22]);
 }
 
 #[test]

@@ -259,23 +259,18 @@ fn random_schedules() {
     }
     too_many(&mut draw, &mut tally);
     prices.close("random schedules");
-    let can_occur = [0, 1, 2, 3, 4, 5, 8, 9, 10, 23, 24, 25, 26, 27, 28];
+    let can_occur = [0, 1, 2, 3, 4, 5, 8, 9, 10, 23, 24, 25, 26, 27, 28, 29];
     tally.close("random schedules", &can_occur);
 }
 
 /// Lists over the pricer's limits: 1, 10 and 2, also for numbers that are no whole list, come before
 /// 5, and 5 before anything in the lists.
 fn too_many(draw: &mut Draw, tally: &mut Tally) {
-    let ask = Ask {
-        processor: 9,
-        variable: 0,
-        write: None,
-    };
     for (requests, entries) in [(1_000_001, 0), (0, 4_000_001), (1_000_001, 4_000_001)] {
         let mut question = Question {
             board: draw.board(),
             moves: vec![Move::Drop(9, 999); entries],
-            asks: vec![ask; requests],
+            asks: vec![Ask::read(9, 0); requests],
         };
         let numbers = question.numbers();
         let mut tables = lend::rival_garbage(draw, question.board);
@@ -295,24 +290,15 @@ fn too_many(draw: &mut Draw, tally: &mut Tally) {
 /// A schedule, the requests, and the cost or the refusal with its place.
 type Case = (Vec<Move>, Vec<Ask>, Result<u32, (u32, usize)>);
 
-fn ask(processor: u32, variable: u32, write: Option<u32>) -> Ask {
-    Ask {
-        processor,
-        variable,
-        write,
-    }
-}
-
 /// Cases with 2 processors, 2 lines, 3 words in a block, 5 blocks, a fetch at 4 cycles and a
 /// write-back at 1.
 fn cases() -> Vec<Case> {
     use Move::*;
-    let read = ask(0, 0, None);
-    let write = ask(0, 0, Some(1));
+    let (read, write, clear) = (Ask::read(0, 0), Ask::write(0, 0, 1), Ask::clear(0));
     let served = |rest: &[Move]| [&[Fetch(0, 0), Complete], rest].concat();
     vec![
         (vec![], vec![], Ok(0)),
-        (vec![], vec![ask(9, 99, None)], Err((28, 0))),
+        (vec![], vec![Ask::read(9, 99)], Err((28, 0))),
         (vec![Fetch(2, 5)], vec![], Err((3, 0))),
         (vec![Fetch(1, 5)], vec![], Err((8, 0))),
         (vec![Drop(2, 5)], vec![], Err((3, 0))),
@@ -325,8 +311,8 @@ fn cases() -> Vec<Case> {
         (vec![WriteBack(0, 0)], vec![], Err((24, 0))),
         (vec![Fetch(0, 0), WriteBack(0, 0)], vec![], Ok(5)),
         (vec![Complete], vec![], Err((26, 0))),
-        (vec![Broadcast], vec![ask(2, 15, None)], Err((3, 0))),
-        (vec![Broadcast], vec![ask(1, 15, None)], Err((4, 0))),
+        (vec![Broadcast], vec![Ask::read(2, 15)], Err((3, 0))),
+        (vec![Broadcast], vec![Ask::read(1, 15)], Err((4, 0))),
         (vec![Broadcast], vec![read], Err((9, 0))),
         (vec![Complete], vec![read], Err((27, 0))),
         (vec![Fetch(1, 0), Complete], vec![read], Err((27, 1))),
@@ -342,6 +328,36 @@ fn cases() -> Vec<Case> {
         (served(&[WriteBack(0, 0), Drop(0, 0)]), vec![write], Ok(5)),
         (vec![Fetch(0, 0), Broadcast, Drop(0, 0)], vec![write], Ok(5)),
         (vec![Fetch(0, 0), Fetch(1, 0), Complete], vec![write], Ok(9)),
+        (vec![Complete], vec![clear], Ok(0)),
+        (vec![Complete; 2], vec![clear], Err((26, 1))),
+        (vec![], vec![clear], Err((28, 0))),
+        (vec![Complete], vec![Ask::clear(2)], Err((3, 0))),
+        (vec![Broadcast], vec![Ask::clear(2)], Err((3, 0))),
+        (vec![Broadcast], vec![clear], Err((9, 0))),
+        (vec![Fetch(0, 0), Broadcast], vec![clear], Err((9, 1))),
+        (served(&[Complete]), vec![read, clear], Err((29, 2))),
+        (served(&[Complete]), vec![write, clear], Err((29, 2))),
+        (served(&[Drop(0, 0), Complete]), vec![read, clear], Ok(4)),
+        (
+            served(&[WriteBack(0, 0), Complete]),
+            vec![write, clear],
+            Err((29, 3)),
+        ),
+        (
+            served(&[WriteBack(0, 0), Drop(0, 0), Complete]),
+            vec![write, clear],
+            Ok(5),
+        ),
+        (
+            served(&[Complete, Drop(0, 0)]),
+            vec![write, Ask::clear(1)],
+            Err((25, 3)),
+        ),
+        (
+            served(&[Fetch(0, 3), WriteBack(0, 0), Drop(0, 0), Complete]),
+            vec![write, clear],
+            Err((29, 5)),
+        ),
     ]
 }
 
@@ -364,5 +380,30 @@ fn conditions_in_order() {
         assert_eq!((told.refusal, told.place), (refusal, place), "{question}");
         assert_eq!(told.cost, answer.unwrap_or(0), "{question}");
         compared(&question, tables, &question.numbers());
+    }
+}
+
+/// A block in one line of one cache: only a clear of that cache is refused.
+#[test]
+fn a_cache_with_one_block() {
+    let board = Board {
+        n: 8,
+        l: 64,
+        p: 1,
+        m: 256,
+        f: 2,
+        g: 1,
+    };
+    for (holder, block) in (0..board.n).flat_map(|i| (0..board.m).map(move |block| (i, block))) {
+        for i in 0..board.n {
+            let question = Question {
+                board,
+                moves: vec![Move::Fetch(holder, block), Move::Complete],
+                asks: vec![Ask::clear(i)],
+            };
+            let tables = RivalTables::sized(lend::setup(board));
+            let refusal = compared(&question, tables, &question.numbers());
+            assert_eq!(refusal, if i == holder { 29 } else { 0 }, "{question}");
+        }
     }
 }

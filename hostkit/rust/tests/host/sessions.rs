@@ -7,14 +7,14 @@ use cuzkelor::{
 };
 
 /// Tables and account of one host.
-struct Host {
-    setup: Setup,
-    tables: Tables,
-    account: Account,
+pub struct Host {
+    pub setup: Setup,
+    pub tables: Tables,
+    pub account: Account,
 }
 
 impl Host {
-    fn fresh(setup: Setup) -> Host {
+    pub fn fresh(setup: Setup) -> Host {
         Host {
             setup,
             tables: Tables::started(setup).expect("in range"),
@@ -23,7 +23,7 @@ impl Host {
     }
 
     /// One request that is taken: its value, and the cycles of fetch, write-back and update.
-    fn one(&mut self, request: Request) -> (u32, [u32; 3]) {
+    pub fn one(&mut self, request: Request) -> (u32, [u32; 3]) {
         let before = self.account;
         let (answer, value) = self.try_one(request);
         assert_eq!(answer, Ok(()));
@@ -36,7 +36,7 @@ impl Host {
         (value, cycles)
     }
 
-    fn try_one(&mut self, request: Request) -> (Result<(), RunError>, u32) {
+    pub fn try_one(&mut self, request: Request) -> (Result<(), RunError>, u32) {
         let mut values = [0xdead];
         let answer = run(
             self.setup,
@@ -48,16 +48,20 @@ impl Host {
         (answer, values[0])
     }
 
-    fn read(&mut self, processor: u32, variable: u32) -> (u32, [u32; 3]) {
+    pub fn read(&mut self, processor: u32, variable: u32) -> (u32, [u32; 3]) {
         self.one(Request::read(processor, Variable(variable)))
     }
 
-    fn write(&mut self, processor: u32, variable: u32, value: u32) -> (u32, [u32; 3]) {
+    pub fn write(&mut self, processor: u32, variable: u32, value: u32) -> (u32, [u32; 3]) {
         self.one(Request::write(processor, Variable(variable), value))
     }
 
+    pub fn clear(&mut self, processor: u32) -> (u32, [u32; 3]) {
+        self.one(Request::clear(processor))
+    }
+
     /// Counter and mark of line 0, where block 0 stands.
-    fn line_0(&self, processor: u32) -> (u32, u32) {
+    pub fn line_0(&self, processor: u32) -> (u32, u32) {
         let at = (processor * self.setup.lines) as usize;
         (self.tables.counters[at], self.tables.marks[at])
     }
@@ -68,7 +72,7 @@ impl Host {
 }
 
 /// The first request was refused by this.
-fn refused(answer: Result<(), RunError>, refusal: Refusal) {
+pub fn refused(answer: Result<(), RunError>, refusal: Refusal) {
     let error = answer.expect_err("a refusal");
     assert_eq!((error.refusal, error.taken, error.place), (refusal, 0, 0));
 }
@@ -314,7 +318,7 @@ fn the_last_processor() {
     assert_eq!(start(of(9), &mut tables), Err(Refusal::SetupOutOfRange));
 }
 
-fn priced(fetch_price: u32, write_back_price: u32) -> Setup {
+pub fn priced(fetch_price: u32, write_back_price: u32) -> Setup {
     Setup {
         fetch_price,
         write_back_price,
@@ -361,20 +365,30 @@ fn a_write_back_at_its_own_price() {
     }
 }
 
-/// 21 at a fetch of 5 and a write-back of 4 cycles, on each limit and one over it.
+/// 21 at a fetch of 5 cycles, a write-back of 4 and 8 lines to write back, on each limit and one over
+/// it; a limit beyond 32 bits meets nothing.
 #[test]
 fn an_account_at_its_limits() {
     let most = |requests: u32| Account {
         requests,
         fetch: 5 * requests,
-        write_back: 4 * requests,
+        write_back: 4 * 8 * requests,
         update: requests,
     };
     let run_none = |account: Account| {
         let mut host = Host::fresh(priced(5, 4));
         run(host.setup, &mut host.tables, &mut { account }, &[], &mut [])
     };
-    for requests in [0, 1, 999_999, 800_000_000] {
+    for requests in [1 << 27, 800_000_000] {
+        let beyond = Account {
+            requests,
+            fetch: 5 * requests,
+            write_back: u32::MAX,
+            update: requests,
+        };
+        assert_eq!(run_none(beyond), Ok(()));
+    }
+    for requests in [0, 1, 999_999, 134_217_727] {
         let full = most(requests);
         assert_eq!(run_none(full), Ok(()));
         let [mut fetch, mut write_back, mut update] = [full; 3];

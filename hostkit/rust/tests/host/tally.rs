@@ -1,6 +1,6 @@
 //! How often each kind of thing occurred: refusal numbers, 0 for what was not refused, or others.
 
-use crate::model::Board;
+use crate::model::{Ask, Board, Caches, Operation};
 use std::cmp::Ordering;
 use std::collections::BTreeMap;
 use std::fmt::Debug;
@@ -54,5 +54,47 @@ impl Prices {
             "g equal to f",
         ];
         self.0.close(name, &all);
+    }
+}
+
+/// What the caches held that were cleared.
+#[derive(Default)]
+pub struct Clears(Tally<&'static str>);
+
+impl Clears {
+    /// Counts the clears of a list that empty caches take.
+    pub fn count(&mut self, board: Board, asks: &[Ask]) {
+        let mut caches = Caches::fresh(board);
+        for ask in asks {
+            if ask.operation == Operation::Clear {
+                self.0.count(held(&caches, ask.processor));
+            }
+            caches.serve(ask);
+        }
+    }
+
+    /// Every kind occurred.
+    pub fn close(&self, name: &str) {
+        let all = [
+            "no block",
+            "no marked block",
+            "one marked block",
+            "several marked blocks",
+        ];
+        self.0.close(name, &all);
+    }
+}
+
+fn held(caches: &Caches, i: u32) -> &'static str {
+    let marked = |&block: &u32| caches.copies[&(i, block)].dirty;
+    let counts = (
+        caches.blocks_of(i).count(),
+        caches.blocks_of(i).filter(marked).count(),
+    );
+    match counts {
+        (0, _) => "no block",
+        (_, 0) => "no marked block",
+        (_, 1) => "one marked block",
+        _ => "several marked blocks",
     }
 }

@@ -69,7 +69,7 @@ fn tail(draw: &mut Draw) -> &'static str {
 }
 
 fn good_line(draw: &mut Draw) -> Vec<u8> {
-    let label = draw.pick(&['0', '1', '1', '2']);
+    let label = draw.pick(&['0', '0', '1', '1', '1', '1', '2', '2', '4']);
     let blanks = blanks(draw);
     let address = address(draw);
     let digits = digits(draw, address);
@@ -84,9 +84,9 @@ fn wide_line(draw: &mut Draw) -> Vec<u8> {
     line
 }
 
-/// A line that is refused by 7, 3 or 4, or by several of them.
+/// A line that is refused by 7, 3 or 4, or by several of them; a clear by 3 alone.
 fn refused_line(draw: &mut Draw) -> Vec<u8> {
-    let label = draw.pick(&['0', '1', '3', '9']);
+    let label = draw.pick(&['0', '1', '3', '4', '5', '9']);
     let processor = draw.pick(&[0, 3, 4, 5, 255]);
     let variable = draw.pick(&[0, 255, 256, 257, 0x3f_ffff]);
     format!("{label} {:x}", processor << 24 | variable << 2).into_bytes()
@@ -97,7 +97,7 @@ fn mutated_line(draw: &mut Draw) -> Vec<u8> {
     let mut line = good_line(draw);
     let at = draw.index(line.len());
     let byte = match draw.chance(80) {
-        true => draw.pick(b"0129aAfFgGxX \t\r-+\n"),
+        true => draw.pick(b"012459aAfFgGxX \t\r-+\n"),
         false => draw.below(256) as u8,
     };
     match draw.below(3) {
@@ -156,7 +156,7 @@ fn full_trace() {
     let mut tally = Tally::default();
     let mut bytes = Vec::new();
     for _ in 0..1_000_000 {
-        let label = draw.pick(&['0', '1', '2']);
+        let label = draw.pick(&['0', '0', '1', '1', '2', '2', '4']);
         bytes.extend(format!("{label} {:x}\n", address(&mut draw)).bytes());
     }
     let full = count(&bytes);
@@ -164,12 +164,15 @@ fn full_trace() {
     tally.count(compared(&mut draw, &bytes, &full));
     let further = [
         ("0 0", 22),
+        ("4 0", 22),
         ("1 0\n0 0\n", 22),
         ("", 0),
         ("\n", 6),
         ("3 f0000000", 7),
         ("0 4000000", 3),
+        ("4 4000000", 3),
         ("0 400", 4),
+        ("4 400", 22),
     ];
     for (line, refusal) in further {
         let all = [&bytes, line.as_bytes()].concat();
@@ -223,7 +226,12 @@ fn grammar_cases() -> Vec<(String, u32, u32)> {
         ("a 0".into(), 6, 1),
         ("3 zz".into(), 6, 1),
         ("3 0".into(), 7, 1),
+        ("5 0".into(), 7, 1),
         ("9 ffffffff".into(), 7, 1),
+        ("4 zz".into(), 6, 1),
+        ("4 04000000".into(), 3, 1),
+        ("4 ff000000".into(), 3, 1),
+        ("4 00000400\n4 03ffffff".into(), 0, 0),
         ("2 04000400".into(), 3, 1),
         ("2 03000400".into(), 4, 1),
         ("2 030003ff".into(), 0, 0),
@@ -246,4 +254,34 @@ fn grammar() {
         compared(&mut draw, text.as_bytes(), &counted);
     }
     assert_eq!(TRACE_SETUP, lend::setup(count(b"").caches.board));
+}
+
+/// Clears by label 4: the top byte names the processor, and the other bits play no part.
+#[test]
+fn clears() {
+    let written = "1 02000000\n1 02000010\n0 01000010\n1 02000020\n";
+    for (line, write_back) in [
+        ("4 02000000", 8),
+        ("4 02ffffff", 8),
+        ("4 2000401 text", 8),
+        ("4 01000000", 0),
+        ("4 0", 0),
+        ("0 02000000", 0),
+    ] {
+        let text = format!("{written}{line}\n");
+        let mut tables = Tables::sized(TRACE_SETUP);
+        let account = Account {
+            requests: 5,
+            fetch: 16,
+            write_back,
+            update: 0,
+        };
+        assert_eq!(
+            told(text.as_bytes(), &mut tables),
+            (account, 0, 0),
+            "{line}"
+        );
+        let held = tables.counters[16..24].iter().any(|&counter| counter > 0);
+        assert_eq!(held, write_back == 0, "{line}");
+    }
 }

@@ -58,13 +58,12 @@ fn fields(line: &[u8]) -> Option<(u8, u32)> {
 /// The request of a line, or its refusal by 6, 7, 3 or 4.
 fn ask(line: &[u8], number: u32) -> Result<Ask, u32> {
     let (label, address) = fields(line).ok_or(6u32)?;
-    if label > 2 {
-        return Err(7);
-    }
-    let ask = Ask {
-        processor: address >> 24,
-        variable: (address & 0xff_ffff) / 4,
-        write: (label == 1).then_some(number),
+    let (processor, variable) = (address >> 24, (address & 0xff_ffff) / 4);
+    let ask = match label {
+        0 | 2 => Ask::read(processor, variable),
+        1 => Ask::write(processor, variable, number),
+        4 => Ask::clear(processor),
+        _ => return Err(7),
     };
     BOARD.refuses(&ask).map_or(Ok(ask), Err)
 }

@@ -1,6 +1,6 @@
 //! The engine: what one request does, rule by rule, and a run.
 
-use super::{Ask, Board};
+use super::{Ask, Board, Operation};
 use std::collections::BTreeMap;
 
 /// One processor's copy of one block.
@@ -35,8 +35,10 @@ impl Ledger {
 
     /// Condition 21.
     pub fn impossible(self, board: Board) -> bool {
-        let most = |price: u32| u64::from(price) * self.requests;
-        self.fetch > most(board.f) || self.write_back > most(board.g) || self.update > most(1)
+        let most = |cycles: u32| u64::from(cycles) * self.requests;
+        self.fetch > most(board.f)
+            || self.write_back > most(board.g * board.l)
+            || self.update > most(1)
     }
 }
 
@@ -73,7 +75,7 @@ impl Caches {
         (0..self.board.n).filter(move |&i| self.copies.contains_key(&(i, block)))
     }
 
-    fn blocks_of(&self, i: u32) -> impl Iterator<Item = u32> + '_ {
+    pub fn blocks_of(&self, i: u32) -> impl Iterator<Item = u32> + '_ {
         self.copies
             .range((i, 0)..=(i, u32::MAX))
             .map(|(&(_, block), _)| block)
@@ -90,12 +92,23 @@ impl Caches {
         let in_the_way = self
             .blocks_of(i)
             .find(|&other| self.board.collide(other, block));
-        let Some(old) = in_the_way else { return };
-        if self.copies[&(i, old)].dirty {
-            self.save(i, old);
+        if let Some(old) = in_the_way {
+            self.evict(i, old, bill);
+        }
+    }
+
+    fn evict(&mut self, i: u32, block: u32, bill: &mut Ledger) {
+        if self.copies[&(i, block)].dirty {
+            self.save(i, block);
             bill.write_back += u64::from(self.board.g);
         }
-        self.copies.remove(&(i, old));
+        self.copies.remove(&(i, block));
+    }
+
+    fn clear(&mut self, i: u32, bill: &mut Ledger) {
+        for block in self.blocks_of(i).collect::<Vec<_>>() {
+            self.evict(i, block, bill);
+        }
     }
 
     /// Rule 2.
@@ -145,23 +158,39 @@ impl Caches {
         }
     }
 
-    /// One request that is not refused: the value supplied or written, and the cycles.
+    /// The block of a variable, now held, and the offset there.
+    fn obtain(&mut self, i: u32, variable: u32, bill: &mut Ledger) -> (u32, usize) {
+        let (block, offset) = self.board.home(variable);
+        if !self.copies.contains_key(&(i, block)) {
+            self.make_room(i, block, bill);
+            self.fetch(i, block, bill);
+        }
+        (block, offset)
+    }
+
+    /// One request that is not refused: the value supplied or written, for a clear 0, and the cycles.
     pub fn serve(&mut self, ask: &Ask) -> (u32, Ledger) {
-        let (block, offset) = self.board.home(ask.variable);
-        let key = (ask.processor, block);
+        let i = ask.processor;
         let mut bill = Ledger {
             requests: 1,
             ..Ledger::default()
         };
-        if !self.copies.contains_key(&key) {
-            self.make_room(ask.processor, block, &mut bill);
-            self.fetch(ask.processor, block, &mut bill);
-        }
-        if let Some(value) = ask.write {
-            self.write(ask.processor, block, offset, value, &mut bill);
-            return (value, bill);
-        }
-        (self.copies[&key].words[offset], bill)
+        let value = match ask.operation {
+            Operation::Read(variable) => {
+                let (block, offset) = self.obtain(i, variable, &mut bill);
+                self.copies[&(i, block)].words[offset]
+            }
+            Operation::Write(variable, value) => {
+                let (block, offset) = self.obtain(i, variable, &mut bill);
+                self.write(i, block, offset, value, &mut bill);
+                value
+            }
+            Operation::Clear => {
+                self.clear(i, &mut bill);
+                0
+            }
+        };
+        (value, bill)
     }
 
     /// A run on sound tables and a possible account: conditions 3, 4 and 22 at each request.

@@ -23,10 +23,10 @@ pub fn draws(seed: u32) -> impl Iterator<Item = u32> {
 
 /// The request of three draws.
 fn ask(board: Board, [first, second, third]: [u32; 3]) -> Ask {
-    Ask {
-        processor: first % board.n,
-        variable: second % (board.m * board.p),
-        write: (third % 2 == 1).then_some(third),
+    let (processor, variable) = (first % board.n, second % (board.m * board.p));
+    match third % 2 {
+        0 => Ask::read(processor, variable),
+        _ => Ask::write(processor, variable, third),
     }
 }
 

@@ -46,9 +46,19 @@ impl Board {
         (variable / self.p, (variable % self.p) as usize)
     }
 
+    /// The block that a request is about; a clear is about none.
+    pub fn block_of(self, ask: &Ask) -> Option<u32> {
+        ask.variable().map(|variable| self.home(variable).0)
+    }
+
+    /// The only line in which a block may stand.
+    pub fn line(self, block: u32) -> u32 {
+        block % self.l
+    }
+
     /// Whether two blocks contend for a line.
     pub fn collide(self, one: u32, other: u32) -> bool {
-        one % self.l == other % self.l
+        self.line(one) == self.line(other)
     }
 
     /// The refusal of a request for what came in: 3 or 4.
@@ -56,14 +66,60 @@ impl Board {
         if ask.processor >= self.n {
             return Some(3);
         }
-        (u64::from(ask.variable) >= u64::from(self.m) * u64::from(self.p)).then_some(4)
+        let variables = u64::from(self.m) * u64::from(self.p);
+        (u64::from(ask.variable()?) >= variables).then_some(4)
     }
 }
 
-/// A request: a read, or a write with its value.
+/// A request.
 #[derive(Clone, Copy, Debug, PartialEq, Eq)]
 pub struct Ask {
     pub processor: u32,
-    pub variable: u32,
-    pub write: Option<u32>,
+    pub operation: Operation,
+}
+
+/// What a request asks for: a read of a variable, a write of a variable with its value, or a clear of
+/// the processor's cache.
+#[derive(Clone, Copy, Debug, PartialEq, Eq)]
+pub enum Operation {
+    Read(u32),
+    Write(u32, u32),
+    Clear,
+}
+
+impl Ask {
+    pub fn read(processor: u32, variable: u32) -> Ask {
+        let operation = Operation::Read(variable);
+        Ask {
+            processor,
+            operation,
+        }
+    }
+
+    pub fn write(processor: u32, variable: u32, value: u32) -> Ask {
+        let operation = Operation::Write(variable, value);
+        Ask {
+            processor,
+            operation,
+        }
+    }
+
+    pub fn clear(processor: u32) -> Ask {
+        let operation = Operation::Clear;
+        Ask {
+            processor,
+            operation,
+        }
+    }
+
+    fn variable(&self) -> Option<u32> {
+        match self.operation {
+            Operation::Read(variable) | Operation::Write(variable, _) => Some(variable),
+            Operation::Clear => None,
+        }
+    }
+
+    pub fn writes(&self) -> bool {
+        matches!(self.operation, Operation::Write(..))
+    }
 }

@@ -38,11 +38,15 @@ impl Rival {
             .collect()
     }
 
+    pub fn blocks_of(&self, i: u32) -> Vec<u32> {
+        let held = self.copies.keys().filter(|&&(j, _)| j == i);
+        held.map(|&(_, block)| block).collect()
+    }
+
     /// The block that stands in the line of another one.
     pub fn in_the_way(&self, i: u32, block: u32) -> Option<u32> {
-        let mut held = self.copies.keys().filter(|&&(j, _)| j == i);
-        held.find(|&&(_, other)| self.board.collide(other, block))
-            .map(|&(_, other)| other)
+        let mut held = self.blocks_of(i).into_iter();
+        held.find(|&other| self.board.collide(other, block))
     }
 
     fn named(&self, i: u32, block: u32) -> Result<(), u32> {
@@ -89,14 +93,19 @@ impl Rival {
         if let Some(refusal) = self.board.refuses(ask) {
             return Err(refusal);
         }
-        if broadcast && ask.write.is_none() {
+        if broadcast && !ask.writes() {
             return Err(9);
         }
-        let (block, _) = self.board.home(ask.variable);
+        let Some(block) = self.board.block_of(ask) else {
+            return match self.blocks_of(ask.processor).is_empty() {
+                true => Ok(0),
+                false => Err(29),
+            };
+        };
         if !self.holds(ask.processor, block) {
             return Err(27);
         }
-        if ask.write.is_none() {
+        if !ask.writes() {
             return Ok(0);
         }
         if broadcast || self.holders(block).len() > 1 {
