@@ -18,7 +18,7 @@ use Rattle.protocol.specs.Rules.{writtenBack, emptied, filled, saved, evicted, 
 use Rattle.protocol_types.specs.Conditions.{Named}
 use Rattle.protocol.specs.Requests.{servedBy, served}
 use Rattle.protocol.specs.Accounts.{fetchAndUpdate}
-use Rattle.protocol.specs.Rival.{Rival, RivalSized, keepsAt, keeps, shared, emptyCache, rivalFetched, rivalWrittenBack, rivalDropped, rivalCompleted, completionBy, completionCycles, Legal, costs}
+use Rattle.protocol.specs.Rival.{Rival, RivalSized, keepsAt, keeps, shared, rivalFetched, rivalWrittenBack, rivalDropped, rivalCompleted, completionBy, completionCycles, Legal, costs}
 use Rattle.protocol_types.specs.declared.Setup.{Setup}
 use Rattle.protocol_types.specs.declared.Variable.{Variable}
 use Rattle.protocol_types.specs.declared.Block.{Block}
@@ -27,11 +27,11 @@ use Rattle.protocol_types.specs.declared.Operation.{Operation}
 use Rattle.protocol_types.specs.declared.Operation.the-variants.{Read, Write, Clear}
 use Rattle.protocol_types.specs.declared.Entry.{Entry}
 use Rattle.protocol_types.specs.declared.Entry.the-variants.{Fetch, WriteBack, Drop, Complete, CompleteByBroadcast}
-use Rattle.protocol_types.proofs.Laws.{Known, sure, not-so, known, choice, chosen-zero, agree, both-true, and-true, other-some, all-true, at-set-same, at-set-other, at-set-zero}
+use Rattle.protocol_types.proofs.Laws.{Known, sure, not-so, known, choice, chosen-zero, agree, both-true, and-true, other-some, at-set-same, at-set-other, at-set-zero}
 use Rattle.protocol_types.proofs.Board.{block-path, block-number, lineSlot-lt, slot-lt, slot-inj, offset-lt, block-lt}
 use Rattle.protocol.proofs.Holding.{holdsAt-false, holder-slot, payer-below, payer-found}
 use Rattle.protocol.proofs.Lengths.{block-stored, counter-stored, sized-evicted, sized-released, sized-broadcast}
-use Rattle.protocol.proofs.Rival.{move-legal, Completable, Completion, completion-legal, sized-played}
+use Rattle.protocol.proofs.Rival.{move-legal, line-empty, Completable, Completion, completion-legal, sized-played}
 use Rattle.competitive.proofs.Sums.{sum, sum-one}
 use Rattle.competitive.proofs.StepSound.{sound-cleared, sound-obtained, obtained-holds, sound-served}
 use Rattle.competitive.proofs.Potential.{Potential}
@@ -130,11 +130,6 @@ keepsAt-true r k b e = let e′ = both-true _ _ e in (eqb-true _ _ (e′ .0), eq
 pub true-keepsAt : (r : Rival) (k : ℕ) (b : Block) → held r k ≡ 1 → copy r k ≡ b .0 → keepsAt r k b ≡ true
 unfolding keepsAt
 true-keepsAt r k b h e = and-true (eq-eqb _ _ h) (eq-eqb _ _ e)
-
--- each line of an empty cache
-pub empty-cache-line : (s : Setup) (r : Rival) (i : ℕ) → emptyCache s r i ≡ true → (l : ℕ) → l < s .lines → held r (lineSlot s i l) ≡ 0
-unfolding emptyCache
-empty-cache-line s r i e l h = eqb-true _ _ (all-true (s .lines) (λ l. eqb (held r (lineSlot s i l)) 0) e l h)
 
 -- a second copy makes the block shared
 pub shared-some : (s : Setup) (r : Rival) (i j : ℕ) (b : Block) → j < s .processors → j ≢ i → keepsAt r (slot s j b) b ≡ true → shared s r i b ≡ true
@@ -354,7 +349,7 @@ module _ (s : Setup) (ok : Fits s) (F W U : ℕ) (ψ : ℕ → ℕ → ℕ → �
         written-bound (obtained s t i b) (sound-obtained s ok t sd i b hi (block-lt s ok v n)) r i b hi kp (offsetOf s v) x
             (completionBy s r i (Write v x) a) (offset-lt s ok v) (obtained-holds s ok t sd i b hi) (shared-pays r i v a),
       )
-  servedBy-bound t sd r i Clear a hi n em = omega (arith, cleared-bound t sd r i (s .lines) hi (le-refl _) (empty-cache-line s r i em))
+  servedBy-bound t sd r i Clear a hi n em = omega (arith, cleared-bound t sd r i (s .lines) hi (le-refl _) (line-empty s r i em))
 
   served-bound : (t : Tables) (sd : Sound s t) (r : Rival) (q : Request) (a : Bool) → Completion s r q
       → total ψ s (served s t q) r + weight F W U s t q ≤ total ψ s t r + completionCycles s r q a

@@ -9,7 +9,7 @@ use native.Mathlib.Nat.{le-refl}
 use lib.ListN.{set, List·getD-map}
 use lib.Seq.{set-getD, map-set-same, ext-getD}
 use lib.Dec.{ltb, eqb}
-use borrow.Author.Tests.{ltb-true, lt-ltb, eqb-true, eqb-false, eq-eqb}
+use borrow.Author.Tests.{ltb-true, lt-ltb, eqb-true, eqb-false}
 use Rattle.protocol_types.specs.Lists.{at, zeros, other}
 use Rattle.protocol_types.specs.Refusals.{noRefusal}
 use Rattle.protocol_types.specs.Board.{Fits, setupRefusal, variables, slots, lineSlot, slot, lineOf, blockOf, offsetOf, fetchPrice, writeBackPrice}
@@ -32,12 +32,12 @@ use Rattle.protocol_types.specs.declared.Operation.the-variants.{Read, Write, C
 use Rattle.protocol_types.specs.declared.Bill.{Bill}
 use Rattle.protocol_types.specs.declared.Entry.{Entry}
 use Rattle.protocol_types.specs.declared.Entry.the-variants.{Fetch, WriteBack, Drop, Complete}
-use Rattle.protocol_types.proofs.Laws.{Same, same, apart, same?, Under, under, over, under?, Known, sure, not-so, known, choice, true-all, at-set-other, at-set-zero}
+use Rattle.protocol_types.proofs.Laws.{Same, same, apart, same?, Under, under, over, under?, Known, sure, not-so, known, choice, at-set-other, at-set-zero}
 use Rattle.protocol_types.proofs.Board.{block-path, block-number, setup-fits, row-lt, row-mod, line-lt, slot-lt, slot-inj, processor-lt, offset-lt, block-lt}
 use Rattle.protocol.proofs.Holding.{holdsAt-true, true-holdsAt, holder-slot, payer-below, payer-found, owner-found}
 use Rattle.protocol.proofs.Engines.{all-valid}
 use Rattle.protocol.proofs.Accounts.{bill-path}
-use Rattle.protocol.proofs.Rival.{legal-completion, length-unmarked}
+use Rattle.protocol.proofs.Rival.{lines-empty, legal-completion, length-unmarked}
 use Rattle.competitive.proofs.Sound.{sound-writtenBack}
 use Rattle.competitive.proofs.StepSound.{marked-holds, placed, sound-evicted, sound-cleared, sound-released, released-unmarked, sound-obtained, obtained-holds, shared-facts, sound-served}
 use Rattle.competitive.proofs.Fresh.{sound-fresh}
@@ -383,11 +383,9 @@ written-leads s ok t sd i v x qs hi n hd = go (sharing s t i b) refl
 
 -- each line that it empties has no copy then
 cleared-empty : (s : Setup) (t : Tables) (i : ℕ) → emptyCache s (mirrored (cleared s t i (s .lines))) i ≡ true
-unfolding emptyCache
 cleared-empty s t i =
     let t′ : Tables = cleared s t i (s .lines) in
-    true-all (s .lines) (λ l. eqb (at (map on (t′ .counters)) (lineSlot s i l)) 0)
-    (λ l h. eq-eqb _ _ (at-held (t′ .counters) (lineSlot s i l) ∙ ap on (cleared-zero s t i (s .lines) l h)))
+    lines-empty s (mirrored t′) i (λ l h. at-held (t′ .counters) (lineSlot s i l) ∙ ap on (cleared-zero s t i (s .lines) l h))
 
 clearing-leads : (s : Setup) (ok : Fits s) (t : Tables) (sd : Sound s t) (qs : List Request) (i n : ℕ) → i < s .processors → n ≤ s .lines
     → Leads s (mirrored t) qs (clearing s t i n) (mirrored (cleared s t i n)) qs (cost3 0 (clearCycles s t i n) 0)

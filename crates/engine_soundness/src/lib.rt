@@ -56,16 +56,6 @@ fn copy_sound(
     !engine_holders::shares(setup, i, Block(block), blocks, counters)
 }
 
-// The slot of line l of processor i.
-fn line_slot(setup: Setup, i: u32, l: u32) -> usize
-    requires { ⌜ Fits setup ⌝ }
-    requires { ⌜ (i < setup .processors) × (l < setup .lines) ⌝ }
-    ensures { λ r. ⌜ r ≡ lineSlot setup i l ⌝ }
-    ensures { λ r. ⌜ r < slots setup ⌝ }
-{
-    (i * setup.lines + l) as usize
-}
-
 // Whether line l of processor i is sound.
 fn line_sound(
     setup: Setup,
@@ -82,7 +72,7 @@ fn line_sound(
     requires { ⌜ Sized setup (lent blocks counters marks words memory) ⌝ }
     ensures { λ r. ⌜ r ≡ soundLine setup (before blocks counters marks words memory) i l (lineSlot setup i l) ⌝ }
 {
-    let k = line_slot(setup, i, l);
+    let k = setup.line_slot(i, l);
     if counters[k] == 0 {
         return empty_line_sound(setup, k, blocks, marks, words);
     }

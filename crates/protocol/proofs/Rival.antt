@@ -1,14 +1,16 @@
 -- Laws of a rival's entries: what their conditions tell, and the lengths of the rival's tables.
 use Prim.Native.Nat.{ℕ, zero, suc, _<_}
 use mathlib.Core.Path.{_≡_, refl, _∙_}
+use mathlib.Core.Logic.{_≢_}
 use mathlib.Core.Bool.{Bool, true, false, not, cond}
 use mathlib.Core.List.{List, [], _∷_}
 use native.Mathlib.Omega.{arith}
 use lib.ListN.{length, length-set, length-replicate}
-use lib.Dec.{ltb}
-use borrow.Author.Tests.{ltb-true, lt-ltb}
+use lib.Dec.{ltb, eqb}
+use borrow.Author.Tests.{ltb-true, lt-ltb, eq-eqb, eqb-true}
+use Rattle.protocol_types.specs.Lists.{at}
 use Rattle.protocol_types.specs.Refusals.{noRefusal, noSuchProcessor, noSuchBlock, broadcastWithoutWrite, completionNotHeld, cacheNotEmpty}
-use Rattle.protocol_types.specs.Board.{slots, slot, blockOf}
+use Rattle.protocol_types.specs.Board.{slots, lineSlot, slot, blockOf}
 use Rattle.protocol_types.specs.Conditions.{Valid}
 use Rattle.protocol.specs.Rival.{Rival, RivalSized, noCopies, keeps, shared, emptyCache, unmarked, rivalFetched, rivalWrittenBack, rivalDropped, completedMarks, rivalCompleted, played, moveRefusal, readyRefusal, completionRefusal}
 use Rattle.protocol_types.specs.declared.Setup.{Setup}
@@ -18,7 +20,7 @@ use Rattle.protocol_types.specs.declared.Operation.{Operation}
 use Rattle.protocol_types.specs.declared.Operation.the-variants.{Read, Write, Clear}
 use Rattle.protocol_types.specs.declared.Entry.{Entry}
 use Rattle.protocol_types.specs.declared.Entry.the-variants.{Fetch, WriteBack, Drop, Complete, CompleteByBroadcast}
-use Rattle.protocol_types.proofs.Laws.{choice, chosen-zero}
+use Rattle.protocol_types.proofs.Laws.{Known, sure, not-so, known, choice, chosen-zero, all-true, true-all}
 use Rattle.protocol_types.proofs.Conditions.{named-passes, valid-passed}
 
 -- ---- entries that are not refused
@@ -35,6 +37,23 @@ move-legal s i b n e =
     let e₁ = chosen-zero (ltb i (s .processors)) (cond (ltb (b .0) (s .blocks)) n noSuchBlock) noSuchProcessor (omega arith) e in
     let e₂ = chosen-zero (ltb (b .0) (s .blocks)) n noSuchBlock (omega arith) (e₁ .1) in
     record { processor = ltb-true _ _ (e₁ .0); block = ltb-true _ _ (e₂ .0); rest = e₂ .1 }
+
+-- the cache of processor i is empty if each line is, and only then
+module _ (s : Setup) (r : Rival) (i : ℕ) where
+  pub lines-empty : ((l : ℕ) → l < s .lines → at (r .held) (lineSlot s i l) ≡ 0) → emptyCache s r i ≡ true
+  unfolding emptyCache
+  lines-empty f = true-all (s .lines) (λ l. eqb (at (r .held) (lineSlot s i l)) 0) (λ l u. eq-eqb (at (r .held) (lineSlot s i l)) 0 (f l u))
+
+  pub line-empty : emptyCache s r i ≡ true → (l : ℕ) → l < s .lines → at (r .held) (lineSlot s i l) ≡ 0
+  unfolding emptyCache
+  line-empty e l u = eqb-true (at (r .held) (lineSlot s i l)) 0 (all-true (s .lines) (λ l. eqb (at (r .held) (lineSlot s i l)) 0) e l u)
+
+  pub line-in-use : (l : ℕ) → l < s .lines → at (r .held) (lineSlot s i l) ≢ 0 → emptyCache s r i ≡ false
+  line-in-use l u d = go (known (emptyCache s r i))
+    where
+      go : Known (emptyCache s r i) → emptyCache s r i ≡ false
+      go (sure e) = absurd (d (line-empty e l u))
+      go (not-so e) = e
 
 -- what completing processor i's operation needs of the copies
 abbrev pub Completable : Setup → Rival → ℕ → Operation → Type 0

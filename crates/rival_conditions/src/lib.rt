@@ -15,7 +15,7 @@ ghost use lib.ListN.{length};
 ghost use Rattle.protocol_types.specs.Refusals.{noRefusal, unless, completionNotHeld};
 ghost use Rattle.protocol_types.specs.Board.{Fits, slots};
 ghost use Rattle.protocol.specs.Accounts.{cycles};
-ghost use Rattle.protocol.specs.Rival.{Rival, rival, RivalSized, keeps, shared, completionCycles, cost, moveRefusal, readyRefusal, completionRefusal, refusal};
+ghost use Rattle.protocol.specs.Rival.{Rival, rival, RivalSized, keeps, shared, emptyCache, completionCycles, cost, moveRefusal, readyRefusal, completionRefusal, refusal};
 ghost use Rattle.rival_copies.specs.Copies.{rivalLent, rivalBefore, rivalMarked};
 
 // ---- what an entry costs
@@ -74,6 +74,7 @@ pub fn completion_cycles(
             let block = setup.block_of(v);
             write_cycles(setup, request.processor, block, broadcast, blocks, held)
         }
+        Operation::Clear => 0,
     }
 }
 
@@ -186,7 +187,40 @@ fn held_refusal(setup: Setup, processor: u32, block: Block, blocks: &[u32], held
     protocol_types::NO_REFUSAL
 }
 
-// At a completion 9, 27.
+// Whether no line of a processor's cache holds a block.
+fn cache_empty(setup: Setup, processor: u32, held: &[u32]) -> bool
+    requires { ⌜ Fits setup ⌝ }
+    requires { ⌜ processor < setup .processors ⌝ }
+    requires { ⌜ length (now held) ≡ slots setup ⌝ }
+    ensures { λ r. ⌜ ((b m : List ℕ) → r ≡ emptyCache setup (rival b (now (held .entry)) m) processor) ⌝ }
+{
+    let n = setup.lines;
+    for line in 0..n {
+        let k = setup.line_slot(processor, line);
+        if held[k] != 0 {
+            return false;
+        }
+    }
+    true
+}
+
+// At the completion of a clear 9, then 29.
+fn clear_refusal(setup: Setup, processor: u32, broadcast: bool, held: &[u32]) -> u32
+    requires { ⌜ Fits setup ⌝ }
+    requires { ⌜ processor < setup .processors ⌝ }
+    requires { ⌜ length (now held) ≡ slots setup ⌝ }
+    ensures { λ r. ⌜ ((b m : List ℕ) → r ≡ readyRefusal setup (rival b (now (held .entry)) m) processor Operation.Clear broadcast) ⌝ }
+{
+    if broadcast {
+        return protocol_types::BROADCAST_WITHOUT_WRITE;
+    }
+    if !cache_empty(setup, processor, held) {
+        return protocol_types::CACHE_NOT_EMPTY;
+    }
+    protocol_types::NO_REFUSAL
+}
+
+// At a completion 9, then 27, or 29 at a clear.
 fn ready_refusal(
     setup: Setup,
     processor: u32,
@@ -203,7 +237,7 @@ fn ready_refusal(
     match operation {
         Operation::Read(v) => {
             if broadcast {
-                return protocol_types::READ_BY_BROADCAST;
+                return protocol_types::BROADCAST_WITHOUT_WRITE;
             }
             let block = setup.block_of(v);
             held_refusal(setup, processor, block, blocks, held)
@@ -212,6 +246,7 @@ fn ready_refusal(
             let block = setup.block_of(v);
             held_refusal(setup, processor, block, blocks, held)
         }
+        Operation::Clear => clear_refusal(setup, processor, broadcast, held),
     }
 }
 

@@ -196,7 +196,7 @@ fn mark_lone(
     marks[k] = 1;
 }
 
-// A completed write marks the block where it has one holder; by broadcast nothing changes.
+// A completed write marks the block where it has one holder; a read, a clear, and a completion by broadcast change nothing.
 pub fn play_completion(
     setup: Setup,
     request: Request,
@@ -220,5 +220,6 @@ pub fn play_completion(
             let block = setup.block_of(v);
             mark_lone(setup, request.processor, block, blocks, held, marks);
         }
+        Operation::Clear => {}
     }
 }

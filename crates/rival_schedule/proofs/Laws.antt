@@ -14,7 +14,7 @@ use Rattle.protocol.specs.Pricer.{priceRefusal}
 use Rattle.protocol_types.specs.declared.Setup.{Setup}
 use Rattle.protocol_types.specs.declared.Request.{Request}
 use Rattle.protocol_types.specs.declared.Operation.{Operation}
-use Rattle.protocol_types.specs.declared.Operation.the-variants.{Read, Write}
+use Rattle.protocol_types.specs.declared.Operation.the-variants.{Read, Write, Clear}
 use Rattle.protocol_types.specs.declared.Entry.{Entry}
 use Rattle.protocol_types.specs.declared.Entry.the-variants.{Fetch, WriteBack, Drop, Complete, CompleteByBroadcast}
 use Rattle.protocol_types.proofs.Laws.{choice}
@@ -72,6 +72,7 @@ cheap-by : (s : Setup) (r : Rival) (i : ℕ) (o : Operation) (b : Bool) → comp
 cheap-by s r i (Read v) b = omega arith
 cheap-by s r i (Write v x) b =
     choice (λ z. z ≤ 1) b (λ _. omega arith) (λ _. choice (λ z. z ≤ 1) (shared s r i (blockOf s v)) (λ _. omega arith) (λ _. omega arith))
+cheap-by s r i Clear b = omega arith
 
 pub cheap-completion : (s : Setup) (r : Rival) (q : Request) (b : Bool) → completionCycles s r q b ≤ 1
 unfolding completionCycles

@@ -1,6 +1,6 @@
 -- A run that goes on is ready for its next request, and what a turn leaves, put together: of any engine.
 -- Assumes nothing.
-use Prim.Native.Nat.{ℕ, _+_, _<_}
+use Prim.Native.Nat.{ℕ, _+_, _≤_, _<_}
 use mathlib.Core.Path.{_≡_, refl, sym, _∙_}
 use mathlib.Core.Logic.{_≢_}
 use mathlib.Core.Bool.{Bool, true, false, cond, true≢false}
@@ -11,6 +11,7 @@ use lib.Dec.{ltb, eqb}
 use borrow.Author.Tests.{eqb-true, ltb-true, eq-eqb, ne-eqb}
 use Rattle.protocol_types.specs.Refusals.{noRefusal}
 use Rattle.protocol_types.specs.Board.{Fits}
+use Rattle.protocol_types.specs.Conditions.{requestLimit}
 use Rattle.protocol.specs.Accounts.{nothing, plus, billOf, possible, Spent}
 use Rattle.protocol.specs.Engines.{Engine}
 use Rattle.protocol_types.specs.declared.Setup.{Setup}
@@ -60,19 +61,30 @@ module _ {T Q : Type 0} (s : Setup) (E : Engine T Q) (Good : T → Type 0) (Vali
       spent-taken : Spent s (x .progress .answer .taken + 1) (plus (x .progress .bill) (E .bill (x .tables) q))
       spent-taken = spent-plus s (x .progress .answer .taken) 1 (x .progress .bill) (E .bill (x .tables) q) (r .spent) (serving (r .fits) .small (x .tables) q)
 
-      pub sums-taken : Sums (x .progress .bill) (E .bill (x .tables) q)
-      sums-taken =
-          let l = serving (r .fits) .passed (x .progress .account .requests + x .progress .answer .taken) q e .1 in
-          let b = spent-numbers s (r .fits) (x .progress .answer .taken + 1) (plus (x .progress .bill) (E .bill (x .tables) q)) spent-taken in
-          record { fetch = omega (arith, b .0); write-back = omega (arith, b .1); update = omega (arith, b .2) }
+      -- the account's requests and these are at most 1,000,000, and cost no more than so many can
+      few-taken : x .progress .account .requests + (x .progress .answer .taken + 1) ≤ requestLimit
+      few-taken = omega (arith, serving (r .fits) .passed (x .progress .account .requests + x .progress .answer .taken) q e .1)
+
+      spent-account : Spent s (x .progress .account .requests + (x .progress .answer .taken + 1))
+          (plus (billOf (x .progress .account)) (plus (x .progress .bill) (E .bill (x .tables) q)))
+      spent-account = spent-plus s _ _ _ _ (possible-is s (x .progress .account) (r .account)) spent-taken
+
+      -- so the account can hold its write-back cycles: with this request they are at most 2,048 × 1,000,000, which is below 2 ^ 32 (document 02, P6)
+      pub write-back-fits : x .progress .account .«write_back» + (x .progress .bill .«write_back» + E .bill (x .tables) q .«write_back») ≤ 2048000000
+      write-back-fits = omega (arith, few-taken, spent-numbers s (r .fits) _ _ spent-account .1)
 
       room-taken : Room (x .progress .account) (x .progress .answer .taken + 1) (plus (x .progress .bill) (E .bill (x .tables) q))
       room-taken =
-          let l = serving (r .fits) .passed (x .progress .account .requests + x .progress .answer .taken) q e .1 in
-          let account = x .progress .account in
-          let a = spent-numbers s (r .fits) (account .requests) (billOf account) (possible-is s account (r .account)) in
-          let b = spent-numbers s (r .fits) (x .progress .answer .taken + 1) (plus (x .progress .bill) (E .bill (x .tables) q)) spent-taken in
-          record { requests = omega arith; fetch = omega (arith, a .0, b .0); write-back = omega (arith, a .1, b .1); update = omega (arith, a .2, b .2) }
+          let c = spent-numbers s (r .fits) _ _ spent-account in
+          record {
+            requests = omega (arith, few-taken);
+            fetch = omega (arith, few-taken, c .0);
+            write-back = omega (arith, write-back-fits);
+            update = omega (arith, few-taken, c .2);
+          }
+
+      pub sums-taken : Sums (x .progress .bill) (E .bill (x .tables) q)
+      sums-taken = record { fetch = omega (arith, room-taken .fetch); write-back = omega (arith, room-taken .write-back); update = omega (arith, room-taken .update) }
 
       ready-taken : taken E x q .progress .going ≡ true → Ready s Good (taken E x q)
       ready-taken g = record {

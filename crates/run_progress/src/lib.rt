@@ -32,11 +32,11 @@ fn added(bill: Bill, more: Bill) -> Bill
     }
 }
 
-// The most cycles that so many requests can cost at a price. The product may need more than 32 bits.
-fn most_cycles(price: u32, requests: u32) -> u64
-    ensures { λ r. ⌜ r ≡ price * requests ⌝ }
+// The most cycles that so many requests can cost, one costing at most `each`. The product may need more than 32 bits.
+fn most_cycles(each: u32, requests: u32) -> u64
+    ensures { λ r. ⌜ r ≡ each * requests ⌝ }
 {
-    price as u64 * requests as u64
+    each as u64 * requests as u64
 }
 
 // Whether condition 21 lets an account through.

@@ -18,6 +18,10 @@ returns-3 c =
     let at-if = at-block-of .before .before .before .before in
     rw (at-if .if1 .left, at-block-of .before .before .operation .given .1, ← (at-block-of .block-of .ensures), c .before .before .mark-lone .ensures)
 
+returns-4 : tie.Need-returns-4
+unfolding rivalCompleted
+returns-4 c = rw (c .before .before .if1 .left, c .enum-told2 .given .1)
+
 pub play-completion-spec : {M : Type 1} → statement M
 play-completion-spec =
     tie.close
@@ -27,6 +31,8 @@ play-completion-spec =
     (λ c. search needs)
     (λ c κs. search needs)
     (λ c κs. search needs)
+    (λ c. search needs)
     returns-2
     (λ c. search needs)
-    returns-3)
+    returns-3
+    returns-4)

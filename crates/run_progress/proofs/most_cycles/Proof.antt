@@ -8,8 +8,8 @@ use Rattle.run_progress.proofs.most_cycles.Tie as tie
 
 mul-result : tie.Need-mul-result
 mul-result c =
-    let price : c .args .price ≤ 4294967295 = omega arith in
-    omega (arith, mul-le-mul-right (c .args .requests) price)
+    let each : c .args .each ≤ 4294967295 = omega arith in
+    omega (arith, mul-le-mul-right (c .args .requests) each)
 
 pub most-cycles-spec : {M : Type 1} → statement M
 most-cycles-spec = tie.close (tie.spec mul-result (λ c. search needs))
