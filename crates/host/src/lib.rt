@@ -17,7 +17,7 @@ ghost use Rattle.host_numbers.specs.Numbers.{runNumbers, priceInNumbers, priceT
 ghost use Rattle.host.specs.Host.{hostVersion, setupOf, accountBefore, accountAfter, blockNumbered, reportOf};
 
 // It counts the changes of these functions' signatures and meanings, and the functions that are added.
-const VERSION: u32 = 4;
+const VERSION: u32 = 5;
 
 // The version of these functions, by which a host can tell whether it was built for them.
 #[no_mangle]

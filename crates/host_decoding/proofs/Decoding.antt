@@ -1,4 +1,4 @@
--- How many requests and entries a list of numbers names, and where the numbers of each stand. Assumes nothing.
+-- What the number of an operation names; how many requests and entries a list of numbers names, and where the numbers of each stand. Assumes nothing.
 use Prim.Native.Nat.{ℕ, zero, suc, _/_, _<_}
 use mathlib.Core.Path.{_≡_, refl}
 use mathlib.Core.List.{List, [], _∷_}
@@ -6,9 +6,26 @@ use native.Mathlib.Nat.{suc-mul}
 use native.Mathlib.Numerals.{unary-clauses}
 use native.Mathlib.Omega.{arith}
 use lib.ListN.{length, getD}
+use borrow.Author.Tests.{ne-eqb}
+use Rattle.protocol_types.specs.declared.Operation.the-variants.{Read, Write, Clear}
 use Rattle.protocol_types.specs.declared.Request.{Request}
 use Rattle.protocol_types.specs.declared.Entry.{Entry}
-use Rattle.host_decoding.specs.Records.{requestWidth, requestAt, requestsOf, entryWidth, entryAt, entriesOf}
+use Rattle.host_decoding.specs.Records.{operationOf, requestWidth, requestAt, requestsOf, entryWidth, entryAt, entriesOf}
+
+-- ---- the number of an operation
+
+pub write-named : (v x : ℕ) → operationOf 1 v x ≡ Write (record { 0 = v }) x
+unfolding operationOf
+write-named v x = refl
+
+-- whatever the variable and the value are
+pub clear-named : (v x : ℕ) → operationOf 2 v x ≡ Clear
+unfolding operationOf
+clear-named v x = refl
+
+pub read-named : (o v x : ℕ) → (o ≡ 1 → ⊥) → (o ≡ 2 → ⊥) → operationOf o v x ≡ Read (record { 0 = v })
+unfolding operationOf
+read-named o v x w c = simp (ne-eqb o 1 w, ne-eqb o 2 c)
 
 -- ---- four numbers a request
 

@@ -9,7 +9,7 @@ use Rattle.protocol_types.specs.Refusals.{firstOf, wrongLength}
 use Rattle.protocol_types.specs.Board.{setupRefusal}
 use Rattle.protocol_types.specs.declared.Setup.{Setup}
 use Rattle.protocol_types.specs.declared.Operation.{Operation}
-use Rattle.protocol_types.specs.declared.Operation.the-variants.{Read, Write}
+use Rattle.protocol_types.specs.declared.Operation.the-variants.{Read, Write, Clear}
 use Rattle.protocol_types.specs.declared.Request.{Request}
 use Rattle.protocol_types.specs.declared.Entry.{Entry}
 use Rattle.protocol_types.specs.declared.Entry.the-variants.{Fetch, WriteBack, Drop, Complete, CompleteByBroadcast}
@@ -38,9 +38,11 @@ partialRefusal s = firstOf (setupRefusal s) wrongLength
 
 -- ---- requests
 
--- operation o, variable v, value x: 1 writes, any other number reads
+-- operation o, variable v, value x: 1 writes; 2 clears, where v and x play no part; any other number reads
 unfoldable pub operationOf : ℕ → ℕ → ℕ → Operation
-operationOf o v x = cond (eqb o 1) (Write (record { 0 = v }) x) (Read (record { 0 = v }))
+operationOf o v x =
+    cond (eqb o 1) (Write (record { 0 = v }) x)
+    (cond (eqb o 2) Clear (Read (record { 0 = v })))
 
 -- processor i and its operation
 unfoldable pub requestOf : ℕ → ℕ → ℕ → ℕ → Request

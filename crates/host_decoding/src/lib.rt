@@ -52,12 +52,15 @@ pub fn request_count(numbers: &[u32]) -> usize
     numbers.len() / REQUEST_WIDTH
 }
 
-// An operation by its number, its variable and its value.
+// An operation by its number, its variable and its value: 1 writes, 2 clears, any other number reads.
 fn operation_of(operation: u32, variable: u32, value: u32) -> Operation
     ensures { λ r. ⌜ r ≡ operationOf operation variable value ⌝ }
 {
     if operation == 1 {
         return Operation::Write(Variable(variable), value);
+    }
+    if operation == 2 {
+        return Operation::Clear;
     }
     Operation::Read(Variable(variable))
 }

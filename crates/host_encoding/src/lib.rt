@@ -15,26 +15,29 @@ fn operation_number(operation: Operation) -> u32
     match operation {
         Operation::Read(_) => 0,
         Operation::Write(_, _) => 1,
+        Operation::Clear => 2,
     }
 }
 
-// The number of its variable.
+// The number of its variable; 0 for a clear, which names none.
 fn variable_number(operation: Operation) -> u32
     ensures { λ r. ⌜ r ≡ variableNumber operation ⌝ }
 {
     match operation {
         Operation::Read(v) => v.0,
         Operation::Write(v, _) => v.0,
+        Operation::Clear => 0,
     }
 }
 
-// The value that it writes; 0 for a read.
+// The value that it writes; 0 for a read or a clear.
 fn value_number(operation: Operation) -> u32
     ensures { λ r. ⌜ r ≡ valueNumber operation ⌝ }
 {
     match operation {
         Operation::Read(_) => 0,
         Operation::Write(_, x) => x,
+        Operation::Clear => 0,
     }
 }
 

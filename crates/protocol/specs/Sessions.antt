@@ -1,6 +1,6 @@
 -- The twelve sessions of document 01 and the cases beside them, then those of document 02, as one table. proofs/Sessions proves that every row passes.
 -- A session compares the answer, the values, the account and every entry of every table with what the row says.
-use Prim.Native.Nat.{ℕ, zero, suc, _+_, _*_}
+use Prim.Native.Nat.{ℕ, suc, _+_, _*_}
 use mathlib.Core.Bool.{Bool, true, false, _&&_, not, cond}
 use mathlib.Core.List.{List, [], _∷_}
 use lib.ListN.{length, replicate, set}
@@ -252,16 +252,6 @@ refusedAt s qs es n k =
 abbrev pub copiesOf9 : ℕ → List ℕ → List ℕ → List Copy
 copiesOf9 i [] ws = []
 copiesOf9 i (c ∷ cs) ws = cond (eqb c 0) (copiesOf9 (suc i) cs ws) (copy (i * 8 + 1) 9 c 0 ws ∷ copiesOf9 (suc i) cs ws)
-
--- a cache in which each of the first n lines has a marked block, on a board of one processor and one word a block: in line l block l, with word l + 7
-abbrev pub markedCache : ℕ → ℕ → List Copy
-markedCache f zero = []
-markedCache f (suc n) = copy n n f 1 ((n + 7) ∷ []) ∷ markedCache f n
-
--- and main memory with these words
-abbrev pub writtenCells : ℕ → List Cell
-writtenCells zero = []
-writtenCells (suc n) = cell n (n + 7) ∷ writtenCells n
 
 -- copies of block 9 with these counters, a write to it by processor i, and the counters then
 abbrev pub payment : List ℕ → ℕ → List ℕ → Row
@@ -2586,21 +2576,21 @@ rows =
       lines = copy 25 9 4 1 (0 ∷ 7 ∷ 0 ∷ 0 ∷ []) ∷ [];
       memory = [];
     })
-    -- a clear of the largest cache at the highest price: the account's write-back cycles come to 2,048,000,000, the most that they can be
-    ∷ sessionFrom (markedCache 32 64) [] (record {
-      setup = pricedBoard 1 64 1 64 32 32;
-      account = account 999999 31999968 2047997952 999999;
+    -- the most write-back cycles that an account can have: 64 lines at the highest price for each of 1,000,000 requests; 22 meets a clear, and 21 does not
+    ∷ session (record {
+      setup = pricedBoard 1 64 1 1 32 32;
+      account = account 1000000 32000000 2048000000 1000000;
       before = [];
-      requests = clear 0 ∷ clear 0 ∷ [];
-      values = 0 ∷ 9 ∷ [];
-      answer = answered 1 22 1;
-      cost = cost 0 2048 0;
-      left = account 1000000 31999968 2048000000 999999;
-      changes = true;
+      requests = clear 0 ∷ [];
+      values = 9 ∷ [];
+      answer = answered 0 22 0;
+      cost = cost 0 0 0;
+      left = account 1000000 32000000 2048000000 1000000;
+      changes = false;
       lines = [];
-      memory = writtenCells 64;
+      memory = [];
     })
-    -- 21: one more
+    -- 21: one write-back cycle more
     ∷ session (record {
       setup = pricedBoard 1 64 1 1 32 32;
       account = account 1000000 0 2048000001 0;

@@ -144,6 +144,30 @@ rows =
     row (48 ∷ 32 ∷ 48 ∷ 10 ∷ 48 ∷ 32 ∷ 49 ∷ 48 ∷ 48 ∷ 48 ∷ 48 ∷ 48 ∷ 48 ∷ 10 ∷ 49 ∷ 32 ∷ 48 ∷ 10 ∷ []) 3 8 0 1 0 0 3 ∷
     -- "0 1000000\n1 0\n1 0\n1 0\n1 2000000\n0 1000000\n": at line 5 processor 1, with counter 1, pays and not processor 0, with 4; so line 6 is a miss (P5)
     row (48 ∷ 32 ∷ 49 ∷ 48 ∷ 48 ∷ 48 ∷ 48 ∷ 48 ∷ 48 ∷ 10 ∷ 49 ∷ 32 ∷ 48 ∷ 10 ∷ 49 ∷ 32 ∷ 48 ∷ 10 ∷ 49 ∷ 32 ∷ 48 ∷ 10 ∷ 49 ∷ 32 ∷ 50 ∷ 48 ∷ 48 ∷ 48 ∷ 48 ∷ 48 ∷ 48 ∷ 10 ∷ 48 ∷ 32 ∷ 49 ∷ 48 ∷ 48 ∷ 48 ∷ 48 ∷ 48 ∷ 48 ∷ 10 ∷ []) 6 16 0 4 0 0 5 ∷
+    -- label 4 (P6): a clear counts as one request and writes the marked block back: "1 0\n4 0\n"
+    row (49 ∷ 32 ∷ 48 ∷ 10 ∷ 52 ∷ 32 ∷ 48 ∷ 10 ∷ []) 2 4 4 0 0 0 0 ∷
+    -- the line is empty then, and memory has the block: "1 0\n4 0\n0 0\n"
+    row (49 ∷ 32 ∷ 48 ∷ 10 ∷ 52 ∷ 32 ∷ 48 ∷ 10 ∷ 48 ∷ 32 ∷ 48 ∷ 10 ∷ []) 3 8 4 0 0 0 1 ∷
+    -- lines of clears count in the line number: "1 0\n4 0\n1 0\n"
+    row (49 ∷ 32 ∷ 48 ∷ 10 ∷ 52 ∷ 32 ∷ 48 ∷ 10 ∷ 49 ∷ 32 ∷ 48 ∷ 10 ∷ []) 3 8 4 0 0 0 3 ∷
+    -- an unmarked block goes for nothing: "0 0\n4 0\n0 0\n"
+    row (48 ∷ 32 ∷ 48 ∷ 10 ∷ 52 ∷ 32 ∷ 48 ∷ 10 ∷ 48 ∷ 32 ∷ 48 ∷ 10 ∷ []) 3 8 0 0 0 0 0 ∷
+    -- every line is cleared, 0 to 7: "1 0\n1 70\n4 0\n0 70\n"
+    row (49 ∷ 32 ∷ 48 ∷ 10 ∷ 49 ∷ 32 ∷ 55 ∷ 48 ∷ 10 ∷ 52 ∷ 32 ∷ 48 ∷ 10 ∷ 48 ∷ 32 ∷ 55 ∷ 48 ∷ 10 ∷ []) 4 12 8 0 0 0 0 ∷
+    -- a clear leaves the other caches: "1 0\n4 1000000\n0 0\n"
+    row (49 ∷ 32 ∷ 48 ∷ 10 ∷ 52 ∷ 32 ∷ 49 ∷ 48 ∷ 48 ∷ 48 ∷ 48 ∷ 48 ∷ 48 ∷ 10 ∷ 48 ∷ 32 ∷ 48 ∷ 10 ∷ []) 3 4 0 0 0 0 1 ∷
+    -- only the top byte counts: low bits of a variable in another line play no part: "1 0\n4 10\n"
+    row (49 ∷ 32 ∷ 48 ∷ 10 ∷ 52 ∷ 32 ∷ 49 ∷ 48 ∷ 10 ∷ []) 2 4 4 0 0 0 0 ∷
+    -- nor do low bits beyond the last variable, so 4 cannot apply: "1 0\n4 00ffffff\n"
+    row (49 ∷ 32 ∷ 48 ∷ 10 ∷ 52 ∷ 32 ∷ 48 ∷ 48 ∷ 102 ∷ 102 ∷ 102 ∷ 102 ∷ 102 ∷ 102 ∷ 10 ∷ []) 2 4 4 0 0 0 0 ∷
+    -- a clear of processor 3 is taken, one of 4 gives 3: "4 3000000\n4 4000000\n"
+    row (52 ∷ 32 ∷ 51 ∷ 48 ∷ 48 ∷ 48 ∷ 48 ∷ 48 ∷ 48 ∷ 10 ∷ 52 ∷ 32 ∷ 52 ∷ 48 ∷ 48 ∷ 48 ∷ 48 ∷ 48 ∷ 48 ∷ 10 ∷ []) 1 0 0 0 3 2 0 ∷
+    -- a clear without an address is malformed: "4 \n"
+    row (52 ∷ 32 ∷ 10 ∷ []) 0 0 0 0 6 1 0 ∷
+    -- 7 still meets label 3: "3 0\n"
+    row (51 ∷ 32 ∷ 48 ∷ 10 ∷ []) 0 0 0 0 7 1 0 ∷
+    -- and label 5: "1 0\n5 0\n"
+    row (49 ∷ 32 ∷ 48 ∷ 10 ∷ 53 ∷ 32 ∷ 48 ∷ 10 ∷ []) 1 4 0 0 7 2 1 ∷
     -- lent tables: of the right lengths, whatever they hold
     lentCase 32 32 32 128 256 0 ∷
     -- 2: each too short, or too long

@@ -1,4 +1,4 @@
--- What the trace program reports for the bytes of its input (document 01, "The trace program").
+-- What the trace program reports for the bytes of its input (document 01, "The trace program"; label 4: document 02, P6).
 use Prim.Native.Nat.{ℕ, _+_, _/_, _%_}
 use mathlib.Core.Bool.{cond}
 use mathlib.Core.List.{List, [], _∷_}
@@ -13,7 +13,7 @@ use Rattle.protocol.specs.Runs.{opening}
 use Rattle.protocol_types.specs.declared.Setup.{Setup}
 use Rattle.protocol_types.specs.declared.Variable.{Variable}
 use Rattle.protocol_types.specs.declared.Request.{Request}
-use Rattle.protocol_types.specs.declared.Operation.the-variants.{Read, Write}
+use Rattle.protocol_types.specs.declared.Operation.the-variants.{Read, Write, Clear}
 use Rattle.trace_din.specs.Lines.{linesOf, parsed}
 use Rattle.trace_din.specs.declared.Parsed.{Parsed}
 use Rattle.trace_din.specs.declared.Parsed.the-variants as form
@@ -39,20 +39,25 @@ processorAt a = a / processorStride
 unfoldable pub variableAt : ℕ → Variable
 variableAt a = record { 0 = a % processorStride / 4 }
 
--- a read at address a, and a write of x there
+-- a read at address a, a write of x there, and a clear, of which only "its processor in the top byte" counts
 abbrev pub readAt : ℕ → Request
 readAt a = record { processor = processorAt a; operation = Read (variableAt a) }
 
 abbrev pub writeAt : ℕ → ℕ → Request
 writeAt a x = record { processor = processorAt a; operation = Write (variableAt a) x }
 
--- the table of labels. "Labels 0 and 2 read, 1 writes … The value written is the line number": line n has label d and address a
+abbrev pub clearAt : ℕ → Request
+clearAt a = record { processor = processorAt a; operation = Clear }
+
+-- the table of labels. "Labels 0 and 2 read, 1 writes … The value written is the line number"; a clear: "Trace label 4 means this … and 7 no longer meets it".
+-- Line n has label d and address a
 unfoldable pub interpretedLabel : ℕ → ℕ → ℕ → Meaning
 interpretedLabel n d a =
     cond (eqb d 0) (Asks (readAt a))
     (cond (eqb d 1) (Asks (writeAt a n))
     (cond (eqb d 2) (Asks (readAt a))
-    Unknown))
+    (cond (eqb d 4) (Asks (clearAt a))
+    Unknown)))
 
 -- line n, from its form
 abbrev pub interpreted : ℕ → Parsed → Meaning
@@ -61,7 +66,7 @@ interpreted n (form.Labelled d a) = interpretedLabel n d a
 
 -- ---- a line, by what it asks for, after the state w
 
--- "Each line is checked for 6, 7, 3, 4, 22 in that order"
+-- "Each line is checked for 6, 7, 3, 4, 22 in that order"; a clear names no variable, so 4 cannot apply
 abbrev pub lineRefusal : State Tables → Meaning → ℕ
 lineRefusal w Malformed = malformedLine
 lineRefusal w Unknown = unknownLabel

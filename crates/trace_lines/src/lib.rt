@@ -6,7 +6,7 @@ use protocol_types::Setup;
 use protocol_types::Variable;
 use trace_din::Parsed;
 ghost use mathlib.Core.Path.{_≡_};
-ghost use Rattle.trace_lines.specs.Trace.{traceSetup, processorAt, variableAt, readAt, writeAt, interpretedLabel, interpreted};
+ghost use Rattle.trace_lines.specs.Trace.{traceSetup, processorAt, variableAt, readAt, writeAt, clearAt, interpretedLabel, interpreted};
 
 // The addresses of one processor: its number is the top byte.
 const PROCESSOR_STRIDE: u32 = 16777216;
@@ -73,6 +73,16 @@ fn write_at(address: u32, value: u32) -> Request
     }
 }
 
+// A clear: the address names only its processor.
+fn clear_at(address: u32) -> Request
+    ensures { λ r. ⌜ r ≡ clearAt address ⌝ }
+{
+    Request {
+        processor: processor_at(address),
+        operation: Operation::Clear,
+    }
+}
+
 // The table of labels: what line `number` asks for by its label and address.
 fn interpret_label(number: u32, label: u32, address: u32) -> Meaning
     ensures { λ r. ⌜ r ≡ interpretedLabel number label address ⌝ }
@@ -81,6 +91,7 @@ fn interpret_label(number: u32, label: u32, address: u32) -> Meaning
         0 => Meaning::Asks(read_at(address)),
         1 => Meaning::Asks(write_at(address, number)),
         2 => Meaning::Asks(read_at(address)),
+        4 => Meaning::Asks(clear_at(address)),
         _ => Meaning::Unknown,
     }
 }

@@ -159,3 +159,8 @@ pub(crate) fn in_the_way(cells: &Cells, lines: u32, i: u32, b: u32) -> u32 {
     }
     BLOCKS
 }
+
+// The first block that processor i has; BLOCKS if its cache is empty. In a single line any block is in the way.
+pub(crate) fn first_held(cells: &Cells, i: u32) -> u32 {
+    in_the_way(cells, 1, i, 0)
+}

@@ -41,10 +41,15 @@ pub(crate) fn numbers_of(n: u32) -> u32 {
     product(n, REQUEST_WIDTH)
 }
 
-// A request. Only the number 1 stands for a write.
+// The operations by number. Any other number reads.
+pub const WRITE: u32 = 1;
+
+pub const CLEAR: u32 = 2;
+
+// A request. A read has no use for the value, and a clear none for the variable either.
 pub struct Request {
     pub processor: u32,
-    pub write: bool,
+    pub operation: u32,
     pub variable: u32,
     pub value: u32,
 }
@@ -58,7 +63,7 @@ pub(crate) fn request_at(cells: &Cells, t: u32) -> Request {
     let first = request_place(t);
     Request {
         processor: get(cells, first, 0),
-        write: get(cells, first, 1) == 1,
+        operation: get(cells, first, 1),
         variable: get(cells, first, 2),
         value: get(cells, first, 3),
     }
@@ -102,15 +107,25 @@ fn perhaps_over(cells: &mut Cells, x: u32, bound: u32, wild: u32) -> u32 {
     sum(bound, past)
 }
 
-// Half of the requests write; of the others some say so by a number that is not 0.
+// Half of the requests write, and one in 16 clears: seldom enough that caches fill in between. Of the others some read by
+// a number that is not 0.
 fn pick_operation(cells: &mut Cells) -> u32 {
-    let roll = draw(cells, 8);
+    let roll = draw(cells, 16);
     match roll {
-        0 | 1 | 2 => 0,
-        3 => 2,
-        4 => u32::MAX,
-        _ => 1,
+        0 => CLEAR,
+        1 => 3,
+        2 => u32::MAX,
+        3..=7 => 0,
+        _ => WRITE,
     }
+}
+
+// Once in how many times a request's variable is out of range. A clear's, which plays no part, is so every second time.
+fn wild_variable(operation: u32, wild: u32) -> u32 {
+    if operation == CLEAR {
+        return 2;
+    }
+    wild
 }
 
 fn put_request(cells: &mut Cells, t: u32, processor: u32, operation: u32, variable: u32, x: u32) {
@@ -127,11 +142,16 @@ fn pick_request(cells: &mut Cells, setup: Setup, t: u32, wild: u32) {
     let operation = pick_operation(cells);
     let x = word(cells);
     let processor = perhaps_over(cells, i, setup.processors, wild);
-    let variable = perhaps_over(cells, v, product(setup.blocks, setup.words), wild);
+    let variable = perhaps_over(
+        cells,
+        v,
+        product(setup.blocks, setup.words),
+        wild_variable(operation, wild),
+    );
     put_request(cells, t, processor, operation, variable, x);
 }
 
-// n requests. Each number of one is out of range once in `wild` times.
+// n requests. Each number of one that plays a part is out of range once in `wild` times.
 pub(crate) fn pick_requests(cells: &mut Cells, setup: Setup, n: u32, wild: u32) {
     let mut t = 0;
     while t < n {
@@ -145,7 +165,9 @@ fn reads_again(fetch_price: u32, t: u32) -> bool {
     remainder(less(t, 2), sum(fetch_price, 1)) == fetch_price
 }
 
-fn tight_request(cells: &mut Cells, fetch_price: u32, t: u32) {
+// Variable 0 is read by 0 and by 1, and then written f times by 0 and read by 1, over and over: a rival that keeps both
+// copies pays about half of what the engine does.
+fn shared_request(cells: &mut Cells, fetch_price: u32, t: u32) {
     let x = word(cells);
     if t < 2 {
         put_request(cells, t, t, 0, 0, x);
@@ -155,12 +177,30 @@ fn tight_request(cells: &mut Cells, fetch_price: u32, t: u32) {
     put_request(cells, t, again as u32, !again as u32, 0, x);
 }
 
-// Variable 0 is read by 0 and by 1, and then written f times by 0 and read by 1, over and over: a rival that keeps both
-// copies pays about half of what the engine does.
-pub(crate) fn tight_requests(cells: &mut Cells, fetch_price: u32, n: u32) {
+// Variable 0 is written by 0, whose cache is then cleared, over and over: the engine pays f + g each time, and a rival that
+// broadcasts f + 1.
+fn flushed_request(cells: &mut Cells, t: u32) {
+    let x = word(cells);
+    if remainder(t, 2) == 1 {
+        put_request(cells, t, 0, CLEAR, 0, x);
+        return;
+    }
+    put_request(cells, t, 0, WRITE, 0, x);
+}
+
+fn tight_request(cells: &mut Cells, fetch_price: u32, t: u32, clears: bool) {
+    if clears {
+        flushed_request(cells, t);
+        return;
+    }
+    shared_request(cells, fetch_price, t);
+}
+
+// A list for which a rival may pay about half of what the engine does, with clears or without.
+pub(crate) fn tight_requests(cells: &mut Cells, fetch_price: u32, n: u32, clears: bool) {
     let mut t = 0;
     while t < n {
-        tight_request(cells, fetch_price, t);
+        tight_request(cells, fetch_price, t, clears);
         t += 1;
     }
 }

@@ -76,6 +76,11 @@ fn print_sums(cells: &Cells) {
         b"of them with fetch and update cycles equal to its fetch cycles ",
         state::MET,
     );
+    state::print_cell(
+        cells,
+        b"of them with those equal to its update and write-back cycles ",
+        state::MET_REST,
+    );
     state::print_cell(cells, b"differences ", state::DIFFERENCES);
 }
 

@@ -4,6 +4,7 @@ use crate::asked::Answer;
 use crate::board::BLOCKS;
 use crate::board::clear;
 use crate::board::counter;
+use crate::board::first_held;
 use crate::board::in_the_way;
 use crate::board::owner;
 use crate::board::owns;
@@ -15,6 +16,7 @@ use crate::rival::Play;
 use crate::run_trials;
 use crate::run_trials::Judged;
 use crate::run_trials::Plan;
+use crate::served::named_wrongly;
 use crate::setups;
 use protocol_types::Account;
 use protocol_types::NO_REFUSAL;
@@ -43,16 +45,21 @@ fn move_of(kind: u32, processor: u32, block: u32) -> Move {
     }
 }
 
+// A legal entry by which block a leaves processor i, or comes nearer to that.
+fn step_out(cells: &Cells, i: u32, a: u32) -> Move {
+    if owns(cells, i, a) {
+        return move_of(rival::WRITE_BACK, i, a);
+    }
+    move_of(rival::DROP, i, a)
+}
+
 // A legal entry that brings block b nearer to processor i, which does not have it.
 fn step_toward(cells: &Cells, setup: Setup, i: u32, b: u32) -> Move {
     let a = in_the_way(cells, setup.lines, i, b);
     if a >= BLOCKS {
         return move_of(rival::FETCH, i, b);
     }
-    if owns(cells, i, a) {
-        return move_of(rival::WRITE_BACK, i, a);
-    }
-    move_of(rival::DROP, i, a)
+    step_out(cells, i, a)
 }
 
 // How a schedule is built: once in `wild` times an entry may be anything, once in `idle` times it is one that no request
@@ -112,8 +119,8 @@ fn drop_marked(cells: &Cells, b: u32) -> Move {
     move_of(rival::DROP, less(owner(cells, marked), 1), marked)
 }
 
-// An entry that may meet any condition: a block that is marked is dropped, a line that is in use is fetched into, or
-// the numbers are as drawn.
+// An entry that may meet any condition: a block that is marked is dropped, a line that is in use is fetched into, the next
+// request is completed, or the numbers are as drawn.
 fn wild_entry(cells: &Cells, lines: u32, drawn: Move, far: u32, roll: u32) -> Move {
     let i = drawn.processor;
     let b = drawn.block;
@@ -123,6 +130,7 @@ fn wild_entry(cells: &Cells, lines: u32, drawn: Move, far: u32, roll: u32) -> Mo
         2 | 3 => drop_marked(cells, b),
         4 => move_of(rival::FETCH, i, held_block(cells, i, b)),
         5 => move_of(rival::FETCH, i, sum(held_block(cells, i, b), lines)),
+        6 => move_of(rival::COMPLETE, i, b),
         _ => drawn,
     }
 }
@@ -137,18 +145,30 @@ fn wild_move(cells: &mut Cells, setup: Setup) -> Move {
     wild_entry(cells, setup.lines, move_of(kind, i, b), far, roll)
 }
 
+// The entry that serves a clear of processor i: its completion, or a step toward it.
+fn clearing_entry(cells: &Cells, i: u32) -> Move {
+    let a = first_held(cells, i);
+    if a >= BLOCKS {
+        return move_of(rival::COMPLETE, 0, 0);
+    }
+    step_out(cells, i, a)
+}
+
 // The entry that serves request `next`: its completion, or a step toward it.
 fn serving_entry(cells: &Cells, setup: Setup, next: u32, roll: u32) -> Move {
     let request = lists::request_at(cells, next);
     let i = request.processor;
-    let b = quotient(request.variable, setup.words);
-    if i >= setup.processors || b >= setup.blocks {
+    if named_wrongly(setup, request) != NO_REFUSAL {
         return move_of(rival::COMPLETE, 0, 0);
     }
+    if request.operation == lists::CLEAR {
+        return clearing_entry(cells, i);
+    }
+    let b = quotient(request.variable, setup.words);
     if counter(cells, i, b) == 0 {
         return step_toward(cells, setup, i, b);
     }
-    if request.write && roll == 0 {
+    if request.operation == lists::WRITE && roll == 0 {
         return move_of(rival::BROADCAST, 0, 0);
     }
     move_of(rival::COMPLETE, 0, 0)
@@ -190,11 +210,11 @@ fn push(cells: &mut Cells, setup: Setup, n: u32, entry: Move, at: Draft) -> Draf
     }
 }
 
-// One entry more, or once all requests are completed mostly none.
+// One entry more; once all requests are completed mostly none, and none in a schedule without idle entries.
 fn extend(cells: &mut Cells, setup: Setup, n: u32, style: Style, at: Draft) -> Draft {
     let play = at.play;
     let more = draw(cells, 8);
-    if play.done >= n && more != 0 {
+    if play.done >= n && (more != 0 || style.idle == 0) {
         return at;
     }
     let entry = next_move(cells, setup, n, play.done, style);
@@ -291,12 +311,12 @@ fn bound_differs(account: Account, n: u32, play: Play) -> u32 {
     0
 }
 
-// There are fetch cycles, and they are the schedule's cost without its write-backs.
-fn met(account: Account, play: Play) -> bool {
-    if account.fetch == 0 {
+// There are cycles, and they are the schedule's cost without its write-backs.
+fn met(cycles: u32, play: Play) -> bool {
+    if cycles == 0 {
         return false;
     }
-    sum(account.fetch, play.write_back) == play.cost
+    sum(cycles, play.write_back) == play.cost
 }
 
 // The engine's bill for n requests beside the cost of a legal schedule for them. The account is the model's, which the
@@ -307,7 +327,9 @@ fn note_compared(cells: &mut Cells, judged: Judged, n: u32, play: Play, case: u3
     state::add(cells, state::COMPARED, 1);
     let cheaper = run_trials::cycles(account) > play.cost;
     state::add(cells, state::CHEAPER, cheaper as u32);
-    state::add(cells, state::MET, met(account, play) as u32);
+    let rest = sum(account.update, account.write_back);
+    state::add(cells, state::MET, met(account.fetch, play) as u32);
+    state::add(cells, state::MET_REST, met(rest, play) as u32);
     let what = bound_differs(account, n, play);
     state::judge(cells, state::PRICE, case, what);
 }
@@ -339,13 +361,24 @@ fn pick_turns(cells: &mut Cells, n: u32) -> u32 {
     sum(product(n, 6), 8)
 }
 
+// The shape of a list that is tight by clears.
+const TIGHT_CLEARS: u32 = 2;
+
+// Whether a list of this shape is tight. Without clears it needs two processors.
+fn is_tight(setup: Setup, shape: u32) -> bool {
+    if shape == TIGHT_CLEARS {
+        return true;
+    }
+    shape < TIGHT_CLEARS && setup.processors > 1
+}
+
 // A list of n requests, and a schedule for it: its entries.
 fn pick_schedule(cells: &mut Cells, setup: Setup, n: u32) -> u32 {
     let style = pick_style(cells);
     let turns = pick_turns(cells, n);
-    let tight = draw(cells, 6);
-    if tight == 0 && setup.processors > 1 {
-        lists::tight_requests(cells, setup.fetch_price, n);
+    let shape = draw(cells, 12);
+    if is_tight(setup, shape) {
+        lists::tight_requests(cells, setup.fetch_price, n, shape == TIGHT_CLEARS);
         return build(cells, setup, n, style_of(style.wild, 0), turns);
     }
     lists::pick_requests(cells, setup, n, product(style.wild, 10));

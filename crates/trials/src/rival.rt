@@ -3,6 +3,7 @@ use crate::board::BLOCKS;
 use crate::board::PROCESSORS;
 use crate::board::clear;
 use crate::board::counter;
+use crate::board::first_held;
 use crate::board::in_the_way;
 use crate::board::other_holder;
 use crate::board::owns;
@@ -10,11 +11,16 @@ use crate::board::set_counter;
 use crate::board::set_owner;
 use crate::layout::ENTRIES;
 use crate::lent;
+use crate::lists::CLEAR;
 use crate::lists::REQUEST_WIDTH;
+use crate::lists::Request;
+use crate::lists::WRITE;
 use crate::lists::partial;
 use crate::lists::request_at;
 use crate::served::named_wrongly;
 use protocol_types::BLOCK_NOT_HELD;
+use protocol_types::BROADCAST_WITHOUT_WRITE;
+use protocol_types::CACHE_NOT_EMPTY;
 use protocol_types::COMPLETION_NOT_HELD;
 use protocol_types::DROP_OF_MARKED;
 use protocol_types::LINE_IN_USE;
@@ -22,7 +28,6 @@ use protocol_types::NO_REFUSAL;
 use protocol_types::NO_REQUEST_LEFT;
 use protocol_types::NO_SUCH_BLOCK;
 use protocol_types::NO_SUCH_PROCESSOR;
-use protocol_types::READ_BY_BROADCAST;
 use protocol_types::REQUESTS_LEFT;
 use protocol_types::Setup;
 use protocol_types::WRONG_LENGTH;
@@ -149,26 +154,37 @@ fn written(cells: &mut Cells, i: u32, b: u32, broadcast: bool) -> u32 {
     0
 }
 
+// The refusal of a completion by what the processor has: a clear needs an empty cache, another request its block.
+fn held_refusal(cells: &Cells, p: u32, request: Request) -> u32 {
+    let i = request.processor;
+    if request.operation == CLEAR {
+        if first_held(cells, i) < BLOCKS {
+            return CACHE_NOT_EMPTY;
+        }
+        return NO_REFUSAL;
+    }
+    if counter(cells, i, quotient(request.variable, p)) == 0 {
+        return COMPLETION_NOT_HELD;
+    }
+    NO_REFUSAL
+}
+
 // The refusal of the completion of request t of n.
 fn completion_refusal(cells: &Cells, setup: Setup, n: u32, t: u32, broadcast: bool) -> u32 {
     if t >= n {
         return NO_REQUEST_LEFT;
     }
     let request = request_at(cells, t);
-    let named = named_wrongly(setup, request.processor, request.variable);
+    let named = named_wrongly(setup, request);
     if named != NO_REFUSAL {
         return named;
     }
     if broadcast {
-        if !request.write {
-            return READ_BY_BROADCAST;
+        if request.operation != WRITE {
+            return BROADCAST_WITHOUT_WRITE;
         }
     }
-    let b = quotient(request.variable, setup.words);
-    if counter(cells, request.processor, b) == 0 {
-        return COMPLETION_NOT_HELD;
-    }
-    NO_REFUSAL
+    held_refusal(cells, setup.words, request)
 }
 
 fn entry_refusal(cells: &Cells, setup: Setup, n: u32, t: u32, entry: Move) -> u32 {
@@ -181,7 +197,7 @@ fn entry_refusal(cells: &Cells, setup: Setup, n: u32, t: u32, entry: Move) -> u3
 // The completion of request t, which nothing refuses: its cost.
 fn complete(cells: &mut Cells, p: u32, t: u32, broadcast: bool) -> u32 {
     let request = request_at(cells, t);
-    if !request.write {
+    if request.operation != WRITE {
         return 0;
     }
     let b = quotient(request.variable, p);

@@ -12,12 +12,13 @@ use crate::board::set_counter;
 use crate::board::set_current;
 use crate::board::set_owner;
 use crate::board::set_stored;
-use crate::layout::MOST_FETCH_PRICE;
 use crate::layout::MOST_REQUESTS;
 use crate::layout::WANTED;
 use crate::lent;
+use crate::lists::CLEAR;
 use crate::lists::REQUEST_WIDTH;
 use crate::lists::Request;
+use crate::lists::WRITE;
 use crate::lists::partial;
 use crate::lists::request_at;
 use protocol_types::ACCOUNT_FULL;
@@ -39,7 +40,7 @@ use trials_cells::cells::sum;
 // Where the model's values go.
 const VALUES: u32 = WANTED + lent::VALUES;
 
-// The cycles of a miss.
+// The cycles of blocks that come and go.
 struct Moved {
     fetch: u32,
     write_back: u32,
@@ -71,6 +72,17 @@ fn leave(cells: &mut Cells, setup: Setup, i: u32, a: u32) -> u32 {
     setup.write_back_price
 }
 
+// Whatever processor i has leaves: the cycles of writing back what was marked.
+fn leave_all(cells: &mut Cells, setup: Setup, i: u32) -> u32 {
+    let mut cycles = 0;
+    let mut a = 0;
+    while a < BLOCKS {
+        cycles = sum(cycles, leave(cells, setup, i, a));
+        a += 1;
+    }
+    cycles
+}
+
 // A block in the way of b leaves.
 fn make_room(cells: &mut Cells, setup: Setup, i: u32, b: u32) -> u32 {
     let a = in_the_way(cells, setup.lines, i, b);
@@ -91,18 +103,12 @@ fn reclaim(cells: &mut Cells, p: u32, b: u32) {
 // Block b comes to processor i, if it is not there.
 fn bring(cells: &mut Cells, setup: Setup, i: u32, b: u32) -> Moved {
     if counter(cells, i, b) > 0 {
-        return Moved {
-            fetch: 0,
-            write_back: 0,
-        };
+        return moved_at(0, 0);
     }
     let write_back = make_room(cells, setup, i, b);
     reclaim(cells, setup.words, b);
     set_counter(cells, i, b, setup.fetch_price);
-    Moved {
-        fetch: setup.fetch_price,
-        write_back: write_back,
-    }
+    moved_at(setup.fetch_price, write_back)
 }
 
 // Processor i, which has block b, writes x to variable v: the update cycles.
@@ -123,14 +129,25 @@ fn change(cells: &mut Cells, fetch_price: u32, i: u32, b: u32, v: u32, x: u32) -
 // Serves one request, which nothing refuses.
 pub(crate) fn serve(cells: &mut Cells, setup: Setup, request: Request) -> Served {
     let i = request.processor;
+    if request.operation == CLEAR {
+        let write_back = leave_all(cells, setup, i);
+        return served_at(moved_at(0, write_back), 0, 0);
+    }
     let v = request.variable;
     let b = quotient(v, setup.words);
     let moved = bring(cells, setup, i, b);
-    if request.write {
+    if request.operation == WRITE {
         let update = change(cells, setup.fetch_price, i, b, v, request.value);
         return served_at(moved, request.value, update);
     }
     served_at(moved, current(cells, v), 0)
+}
+
+fn moved_at(fetch: u32, write_back: u32) -> Moved {
+    Moved {
+        fetch: fetch,
+        write_back: write_back,
+    }
 }
 
 fn served_at(moved: Moved, value: u32, update: u32) -> Served {
@@ -152,12 +169,15 @@ pub(crate) fn entered(account: Account, served: Served) -> Account {
     }
 }
 
-// A processor or a variable that there is not.
-pub(crate) fn named_wrongly(setup: Setup, i: u32, v: u32) -> u32 {
-    if i >= setup.processors {
+// A processor or a variable that there is not. A clear names no variable.
+pub(crate) fn named_wrongly(setup: Setup, request: Request) -> u32 {
+    if request.processor >= setup.processors {
         return NO_SUCH_PROCESSOR;
     }
-    if v >= product(setup.blocks, setup.words) {
+    if request.operation == CLEAR {
+        return NO_REFUSAL;
+    }
+    if request.variable >= product(setup.blocks, setup.words) {
         return NO_SUCH_VARIABLE;
     }
     NO_REFUSAL
@@ -166,7 +186,7 @@ pub(crate) fn named_wrongly(setup: Setup, i: u32, v: u32) -> u32 {
 // The refusal of a request.
 fn refused(setup: Setup, so_far: Outcome, request: Request) -> u32 {
     let account = so_far.account;
-    let named = named_wrongly(setup, request.processor, request.variable);
+    let named = named_wrongly(setup, request);
     if named != NO_REFUSAL {
         return named;
     }
@@ -176,30 +196,29 @@ fn refused(setup: Setup, so_far: Outcome, request: Request) -> u32 {
     NO_REFUSAL
 }
 
-// Whether the cycles of a kind are more than price × requests, in 64 bits.
-fn over(cycles: u32, price: u32, requests: u32) -> bool {
-    cycles as u64 > times(requests, price)
+// Whether the cycles of a kind are more than `most` × requests, in 64 bits.
+fn over(cycles: u32, most: u32, requests: u32) -> bool {
+    cycles as u64 > times(requests, most)
 }
 
-// price × requests, the price at most MOST_FETCH_PRICE, by adding.
-fn times(requests: u32, price: u32) -> u64 {
+// `most` × requests, by adding.
+fn times(requests: u32, most: u32) -> u64 {
     let mut all: u64 = 0;
     let mut k = 0;
-    while k < MOST_FETCH_PRICE {
-        if k < price {
-            all = std::num::wrapping_add_u64(all, requests as u64);
-        }
+    while k < most {
+        all = std::num::wrapping_add_u64(all, requests as u64);
         k += 1;
     }
     all
 }
 
-// Whether an account is impossible.
+// Whether an account is impossible. One request may write back every line of a cache.
 fn impossible(setup: Setup, account: Account) -> bool {
     if over(account.fetch, setup.fetch_price, account.requests) {
         return true;
     }
-    if over(account.write_back, setup.write_back_price, account.requests) {
+    let whole_cache = product(setup.write_back_price, setup.lines);
+    if over(account.write_back, whole_cache, account.requests) {
         return true;
     }
     account.update > account.requests

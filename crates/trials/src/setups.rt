@@ -210,10 +210,15 @@ pub(crate) fn pick_lending(
     setup
 }
 
-// price × requests, for a price up to MOST_FETCH_PRICE and some millions of requests.
-fn full(price: u32, requests: u32) -> u32 {
-    let thousands = product(quotient(requests, 1000), product(price, 1000));
-    sum(thousands, product(price, remainder(requests, 1000)))
+// a × n, for an a up to MOST_LINES and an n up to some tens of millions.
+fn full(a: u32, n: u32) -> u32 {
+    let thousands = product(quotient(n, 1000), product(a, 1000));
+    sum(thousands, product(a, remainder(n, 1000)))
+}
+
+// The most write-back cycles of so many requests, up to some millions: each writes back every line of a cache.
+fn full_write_back(setup: Setup, requests: u32) -> u32 {
+    full(setup.lines, full(setup.write_back_price, requests))
 }
 
 fn account_of(requests: u32, fetch: u32, write_back: u32, update: u32) -> Account {
@@ -235,26 +240,34 @@ fn account_at(shape: u32, setup: Setup, requests: u32, few: u32, far: u32) -> Ac
     let g = setup.write_back_price;
     match shape {
         // About to be full, and at the limits of what is possible.
-        0 => account_of(requests, full(f, requests), full(g, requests), requests),
+        0 => account_of(
+            requests,
+            full(f, requests),
+            full_write_back(setup, requests),
+            requests,
+        ),
         1 => account_of(requests, 0, 0, 0),
         // Possible, and some way on.
         2 => account_of(few, full(f, few), 0, quotient(few, 2)),
         3 => account_of(MOST_REQUESTS, few, few, few),
         // Impossible by one, in each kind.
         4 => account_of(few, sum(full(f, few), 1), 0, 0),
-        5 => account_of(few, 0, sum(full(g, few), 1), 0),
+        5 => account_of(few, 0, sum(full_write_back(setup, few), 1), 0),
         6 => account_of(few, 0, 0, sum(few, 1)),
         7 => account_of(requests, sum(full(f, requests), 1), 0, requests),
+        8 => account_of(requests, 0, sum(full_write_back(setup, requests), 1), 0),
+        // A block a request is written back, and a cycle more: possible in caches of two lines.
+        9 => account_of(few, 0, sum(full(g, few), 1), 0),
         // price × requests is over 32 bits, and for an even price its low 32 bits are few.
-        8 => account_of(sum(2147483648, few), far, far, quotient(far, 2)),
-        9 => account_of(few, far, far, far),
+        10 => account_of(sum(2147483648, few), far, far, quotient(far, 2)),
+        11 => account_of(few, far, far, far),
         _ => fresh_account(),
     }
 }
 
 // An account with which a list of runs begins: mostly fresh, else at a limit or past it.
 pub(crate) fn pick_account(cells: &mut Cells, setup: Setup) -> Account {
-    let shape = draw(cells, 24);
+    let shape = draw(cells, 28);
     let requests = between(cells, 999970, 1000003);
     let few = draw(cells, 2000);
     let far = word(cells);

@@ -24,7 +24,14 @@ fn write(processor: u32, variable: u32, value: u32) -> Request {
     }
 }
 
-// Two misses; three writes by broadcast, the last of which empties the payer's line; a write alone; a miss that writes a
+fn clear(processor: u32) -> Request {
+    Request {
+        processor: processor,
+        operation: Operation::Clear,
+    }
+}
+
+// Two misses; three writes by broadcast, the last of which empties the payer's line; a write alone; a clear that writes the
 // marked block back; a read of what was written back.
 fn session() -> [Request; REQUESTS] {
     [
@@ -34,13 +41,13 @@ fn session() -> [Request; REQUESTS] {
         write(0, 1, 12),
         write(0, 0, 13),
         write(0, 1, 14),
-        read(0, 4),
+        clear(0),
         read(1, 0),
     ]
 }
 
-// After it: a miss and a write; a fetch of a marked block; a write by broadcast; a hit; a write alone; a request that is
-// refused, and two that are not reached.
+// After it: a miss and a write; a fetch of a marked block; a write by broadcast; a hit; a write alone; a miss that writes a
+// marked block back; a request that is refused, and one that is not reached.
 fn session_after() -> [Request; REQUESTS] {
     [
         write(2, 9, 21),
@@ -48,13 +55,13 @@ fn session_after() -> [Request; REQUESTS] {
         write(1, 8, 22),
         read(2, 8),
         write(0, 4, 23),
-        write(3, 0, 24),
         read(0, 0),
+        write(3, 0, 24),
         read(1, 1),
     ]
 }
 
-// A legal schedule for the session, with moves after its last completion.
+// A legal schedule for the session, with moves that no request asks for, some of them after its last completion.
 fn schedule() -> [Entry; ENTRIES] {
     [
         Entry::Fetch(0, Block(0)),
@@ -66,15 +73,15 @@ fn schedule() -> [Entry; ENTRIES] {
         Entry::Complete,
         Entry::Complete,
         Entry::Complete,
+        Entry::Fetch(0, Block(1)),
         Entry::WriteBack(0, Block(0)),
         Entry::Drop(0, Block(0)),
-        Entry::Fetch(0, Block(2)),
+        Entry::Drop(0, Block(1)),
         Entry::Complete,
         Entry::Fetch(1, Block(0)),
         Entry::Complete,
         Entry::Fetch(2, Block(3)),
         Entry::WriteBack(2, Block(3)),
-        Entry::Drop(2, Block(3)),
         Entry::Drop(1, Block(0)),
         Entry::Fetch(1, Block(4)),
     ]
@@ -94,11 +101,12 @@ fn any_request(cells: &mut Cells) -> Request {
     let i = mostly_below(cells, board::PROCESSORS);
     let v = mostly_below(cells, board::VARIABLES);
     let x = draw(cells, 1000);
-    let reads = draw(cells, 2);
-    if reads == 1 {
-        return read(i, v);
+    let kind = draw(cells, 12);
+    match kind {
+        0 => clear(i),
+        1..=6 => read(i, v),
+        _ => write(i, v, x),
     }
-    write(i, v, x)
 }
 
 fn any_entry(cells: &mut Cells) -> Entry {

@@ -26,22 +26,22 @@ fn set(list: &mut [u32], k: u32, x: u32) {
     }
 }
 
-// A read has operation 0 and no value, a write operation 1.
-fn set_request(list: &mut RequestNumbers, k: u32, request: Request) {
+fn set_four(list: &mut RequestNumbers, k: u32, processor: u32, operation: u32, v: u32, x: u32) {
     let first = product(k, REQUEST_WIDTH);
+    set(list, first, processor);
+    set(list, sum(first, 1), operation);
+    set(list, sum(first, 2), v);
+    set(list, sum(first, 3), x);
+}
+
+// A read has operation 0 and no value, a write operation 1, a clear operation 2 and neither variable nor value.
+fn set_request(list: &mut RequestNumbers, k: u32, request: Request) {
+    let i = request.processor;
     let operation = request.operation;
-    set(list, first, request.processor);
     match operation {
-        Operation::Read(v) => {
-            set(list, sum(first, 1), 0);
-            set(list, sum(first, 2), v.0);
-            set(list, sum(first, 3), 0);
-        }
-        Operation::Write(v, x) => {
-            set(list, sum(first, 1), 1);
-            set(list, sum(first, 2), v.0);
-            set(list, sum(first, 3), x);
-        }
+        Operation::Read(v) => set_four(list, k, i, 0, v.0, 0),
+        Operation::Write(v, x) => set_four(list, k, i, 1, v.0, x),
+        Operation::Clear => set_four(list, k, i, 2, 0, 0),
     }
 }
 

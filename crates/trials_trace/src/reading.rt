@@ -28,10 +28,12 @@ use trials_cells::cells::get;
 use trials_cells::cells::less;
 use trials_cells::cells::sum;
 
-// The labels of reads, writes and fetches of instructions.
+// The labels: 1 writes, the others below READS_AND_WRITES read, and one more clears.
 const WRITE: u32 = 1;
 
-const LABELS: u32 = 3;
+const READS_AND_WRITES: u32 = 3;
+
+pub const CLEAR: u32 = 4;
 
 const LONGEST_LINE: u32 = 80;
 
@@ -201,18 +203,26 @@ fn variable(address: u32) -> u32 {
     address % ADDRESSES / VARIABLE_ADDRESSES
 }
 
+// Whether the label and the address name a variable that there is not. A clear names none.
+fn names_wrongly(label: u32, address: u32) -> bool {
+    if label == CLEAR {
+        return false;
+    }
+    variable(address) >= VARIABLES
+}
+
 // The refusal of a line, the conditions in their order.
 fn refused(line: Parts, account: Account) -> u32 {
     if line.refusal != NO_REFUSAL {
         return line.refusal;
     }
-    if line.label >= LABELS {
+    if line.label >= READS_AND_WRITES && line.label != CLEAR {
         return UNKNOWN_LABEL;
     }
     if processor(line.address) >= PROCESSORS {
         return NO_SUCH_PROCESSOR;
     }
-    if variable(line.address) >= VARIABLES {
+    if names_wrongly(line.label, line.address) {
         return NO_SUCH_VARIABLE;
     }
     if account.requests >= MOST_REQUESTS {
@@ -231,11 +241,19 @@ fn entered(account: Account, cycles: Cycles) -> Account {
     }
 }
 
+// Serves the line with the number x: its cycles.
+fn serve(cells: &mut Cells, line: Parts, x: u32) -> Cycles {
+    let i = processor(line.address);
+    if line.label == CLEAR {
+        return tables::clear(cells, i);
+    }
+    let v = variable(line.address);
+    tables::serve(cells, i, line.label == WRITE, v, x)
+}
+
 // The line that ends at `end` is served, as the account's next request. A write has the number of its request as its value.
 fn served(cells: &mut Cells, line: Parts, account: Account, end: u32) -> Reading {
-    let i = processor(line.address);
-    let v = variable(line.address);
-    let cycles = tables::serve(cells, i, line.label == WRITE, v, sum(account.requests, 1));
+    let cycles = serve(cells, line, sum(account.requests, 1));
     reading_of(sum(end, 1), entered(account, cycles), NO_REFUSAL, 0)
 }
 

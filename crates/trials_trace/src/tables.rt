@@ -107,6 +107,30 @@ fn empty_line(cells: &mut Cells, k: u32) {
     wipe(cells, line_words(k), BLOCK_WORDS);
 }
 
+// Line k is written back if it is marked, and emptied: the cycles of it.
+fn vacate(cells: &mut Cells, k: u32) -> u32 {
+    let written = write_back(cells, k);
+    empty_line(cells, k);
+    written
+}
+
+// The same for each line of processor i.
+fn vacate_all(cells: &mut Cells, i: u32) -> u32 {
+    let first = product(i, LINES);
+    let mut written = 0;
+    let mut k = 0;
+    while k < LINES {
+        written = sum(written, vacate(cells, sum(first, k)));
+        k += 1;
+    }
+    written
+}
+
+// Processor i's cache is cleared.
+pub(crate) fn clear(cells: &mut Cells, i: u32) -> Cycles {
+    cycles_of(0, vacate_all(cells, i), 0)
+}
+
 // Whoever holds block b writes it back if it is marked. The bus carries the words to the reader too, so this costs nothing.
 fn release(cells: &mut Cells, b: u32) {
     let mut j = 0;
@@ -136,8 +160,7 @@ fn obtain(cells: &mut Cells, i: u32, b: u32) -> Cycles {
         return cycles_of(0, 0, 0);
     }
     let k = slot(i, b);
-    let written = write_back(cells, k);
-    empty_line(cells, k);
+    let written = vacate(cells, k);
     fill_line(cells, k, b);
     cycles_of(FETCH_PRICE, written, 0)
 }
@@ -191,7 +214,7 @@ fn cycles_of(fetch: u32, write_back: u32, update: u32) -> Cycles {
     }
 }
 
-// Serves one request, which nothing refuses.
+// Serves a read or a write, which nothing refuses.
 pub(crate) fn serve(cells: &mut Cells, i: u32, writes: bool, v: u32, x: u32) -> Cycles {
     let moved = obtain(cells, i, quotient(v, BLOCK_WORDS));
     if !writes {

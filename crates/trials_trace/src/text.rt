@@ -3,6 +3,7 @@ use crate::layout;
 use crate::layout::BYTES;
 use crate::layout::Lending;
 use crate::layout::TABLES;
+use crate::reading::CLEAR;
 use trials_cells::cells::Cells;
 use trials_cells::cells::less;
 use trials_cells::cells::put;
@@ -113,18 +114,34 @@ fn pick_odd(cells: &mut Cells) -> u32 {
     between(cells, 11, 126)
 }
 
+// A label: now and then that of a clear, and else 0, 1 or 2.
+fn known_label(roll: u32) -> u32 {
+    if roll == 0 {
+        return CLEAR;
+    }
+    roll % 3
+}
+
+// A digit that is no label: 3 for the clear's, or itself.
+fn unknown_label(high: u32) -> u32 {
+    if high == CLEAR {
+        return 3;
+    }
+    high
+}
+
 // The byte of a label.
 fn pick_label(cells: &mut Cells, wrong: u32) -> u32 {
-    let label = draw(cells, 3);
-    let high = between(cells, 3, 9);
+    let roll = draw(cells, 13);
+    let high = between(cells, CLEAR, 9);
     let odd = between(cells, 33, 126);
     if wrong == ODD_LABEL {
         return odd;
     }
     if wrong == LABEL {
-        return sum(DIGIT_0, high);
+        return sum(DIGIT_0, unknown_label(high));
     }
-    sum(DIGIT_0, label)
+    sum(DIGIT_0, known_label(roll))
 }
 
 // The address of a byte of variable v, of processor i.
@@ -132,7 +149,8 @@ fn address_of(i: u32, v: u32, low: u32) -> u32 {
     i % 256 * ADDRESSES + v % 4194304 * VARIABLE_ADDRESSES + low % VARIABLE_ADDRESSES
 }
 
-fn pick_address(cells: &mut Cells, wrong: u32) -> u32 {
+// An address. The variable of a clear plays no part, and is out of range every second time.
+fn pick_address(cells: &mut Cells, wrong: u32, clears: bool) -> u32 {
     let i = draw(cells, 4);
     let v = draw(cells, 256);
     let near = draw(cells, 24);
@@ -148,6 +166,9 @@ fn pick_address(cells: &mut Cells, wrong: u32) -> u32 {
     }
     if roll == 0 {
         return address_of(i, near, low);
+    }
+    if clears {
+        return address_of(i, past, low);
     }
     address_of(i, v, low)
 }
@@ -267,7 +288,8 @@ fn put_parts(
 // A line without its newline.
 fn put_line(cells: &mut Cells, start: u32, wrong: u32) -> u32 {
     let label = pick_label(cells, wrong);
-    let address = pick_address(cells, wrong);
+    let clears = label == DIGIT_0 + CLEAR;
+    let address = pick_address(cells, wrong, clears);
     let digits = pick_digits(cells, address, wrong);
     if wrong == EMPTY {
         return start;

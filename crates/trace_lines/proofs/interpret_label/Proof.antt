@@ -19,8 +19,24 @@ returns-3 c = simp (c .before .match .keys3, c .read-at2 .ensures)
 
 returns-4 : tie.Need-returns-4
 unfolding interpretedLabel
-returns-4 c = simp (ne-eqb _ _ (c .match .rest .0 .0 .1), ne-eqb _ _ (c .match .rest .0 .1), ne-eqb _ _ (c .match .rest .1))
+returns-4 c = simp (c .before .match .keys4, c .clear-at .ensures)
+
+returns-5 : tie.Need-returns-5
+unfolding interpretedLabel
+returns-5 c =
+    let other = c .match .rest in
+    simp (ne-eqb _ _ (other .0 .0 .0 .1), ne-eqb _ _ (other .0 .0 .1), ne-eqb _ _ (other .0 .1), ne-eqb _ _ (other .1))
 
 pub interpret-label-spec : {M : Type 1} → statement M
 interpret-label-spec =
-    tie.close (tie.spec (λ c κs. search needs) (λ c κs. search needs) (λ c κs. search needs) returns returns-2 returns-3 returns-4)
+    tie.close
+    (tie.spec
+    (λ c κs. search needs)
+    (λ c κs. search needs)
+    (λ c κs. search needs)
+    (λ c κs. search needs)
+    returns
+    returns-2
+    returns-3
+    returns-4
+    returns-5)

@@ -5,10 +5,10 @@ use Rattle.trials.proofs.lists.tight_requests.Statement.{statement}
 use Rattle.trials.proofs.lists.tight_requests.Tie as tie
 
 abbrev Inv-loop : tie.InvT-loop
-Inv-loop cells₀ fetch-price n t₀ cells t = 0 ≤ t
+Inv-loop cells₀ fetch-price n clears t₀ cells t = 0 ≤ t
 
 abbrev μ-loop : tie.MeasureT-loop
-μ-loop cells₀ fetch-price n t₀ cells t = n - t
+μ-loop cells₀ fetch-price n clears t₀ cells t = n - t
 
 pub tight-requests-spec : {M : Type 1} → statement M
 tight-requests-spec =

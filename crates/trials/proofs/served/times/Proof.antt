@@ -5,10 +5,10 @@ use Rattle.trials.proofs.served.times.Statement.{statement}
 use Rattle.trials.proofs.served.times.Tie as tie
 
 abbrev Inv-loop : tie.InvT-loop
-Inv-loop requests price all₀ k₀ all k = 0 ≤ k
+Inv-loop requests most all₀ k₀ all k = 0 ≤ k
 
 abbrev μ-loop : tie.MeasureT-loop
-μ-loop requests price all₀ k₀ all k = 32 - k
+μ-loop requests most all₀ k₀ all k = most - k
 
 pub times-spec : {M : Type 1} → statement M
 times-spec =
