@@ -4,11 +4,11 @@ use mathlib.Core.Path.{_≡_, refl, ap, _∙_}
 use mathlib.Core.Logic.{_≢_}
 use mathlib.Core.List.{List, [], _∷_}
 use native.Mathlib.Omega.{arith}
-use native.Mathlib.Nat.{suc-mul, mul-le-mul, mul-le-mul-right, add-zero}
+use native.Mathlib.Nat.{suc-mul, mul-le-mul-right, add-zero}
 use lib.ListN.{length, set, drop, length-set, length-take, length-drop}
 use lib.Seq.{sets, getD-take, getD-drop}
 use Rattle.protocol_types.specs.Lists.{at, part}
-use Rattle.protocol_types.specs.Board.{Fits, wordIndex}
+use Rattle.protocol_types.specs.Board.{wordIndex}
 use Rattle.protocol_types.specs.declared.Setup.{Setup}
 use Rattle.protocol_types.proofs.Laws.{Under, under, over, under?, at-set-same, at-set-other}
 
@@ -73,8 +73,3 @@ module _ (s : Setup) (l : List ℕ) (n : ℕ) (size : length l ≡ n * s .words)
   unfolding wordIndex
   at-sets-row k vs o h e u =
       ap (at (sets l (wordIndex s k 0) vs)) (omega arith) ∙ at-sets-in vs l (wordIndex s k 0) o (omega arith) (omega (arith, size, row-end s k n h))
-
--- ---- slots: 8 caches of 64 lines
-
-pub few-slots : (s : Setup) → Fits s → (i : ℕ) → i < s .processors → i * s .lines + s .lines ≤ 512
-few-slots s f i h = omega (arith, ends-within i (s .processors) (s .lines) h, mul-le-mul (f .few-processors) (f .few-lines))

@@ -79,7 +79,7 @@ fn print_sums(cells: &Cells) {
     state::print_cell(
         cells,
         b"of them with those equal to its update and write-back cycles ",
-        state::MET_REST,
+        state::MET_UPDATES,
     );
     state::print_cell(cells, b"differences ", state::DIFFERENCES);
 }

@@ -329,7 +329,7 @@ fn note_compared(cells: &mut Cells, judged: Judged, n: u32, play: Play, case: u3
     state::add(cells, state::CHEAPER, cheaper as u32);
     let rest = sum(account.update, account.write_back);
     state::add(cells, state::MET, met(account.fetch, play) as u32);
-    state::add(cells, state::MET_REST, met(rest, play) as u32);
+    state::add(cells, state::MET_UPDATES, met(rest, play) as u32);
     let what = bound_differs(account, n, play);
     state::judge(cells, state::PRICE, case, what);
 }

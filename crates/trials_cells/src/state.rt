@@ -60,7 +60,7 @@ pub const CHEAPER: u32 = 6;
 
 pub const MET: u32 = 7;
 
-pub const MET_REST: u32 = 8;
+pub const MET_UPDATES: u32 = 8;
 
 // The counts of a kind, one for each number, stand after those of the kind before it.
 const COUNTS: u32 = 16;

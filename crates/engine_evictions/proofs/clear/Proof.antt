@@ -29,7 +29,7 @@ loop-holds c = (omega arith, refl, refl)
 line-slot-requires : tie.Need-line-slot-requires Inv-loop μ-loop
 line-slot-requires c κs =
     let start = c .before .before .before .before .before .before .before in
-    (start .pre .0, (start .pre .1 .0, omega arith))
+    (start .pre .0, (omega (arith, start .pre .0 .some-processor, start .pre .1 .0), omega arith))
 
 evict-requires : tie.Need-evict-requires Inv-loop μ-loop
 evict-requires c κs =
