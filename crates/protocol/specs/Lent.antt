@@ -1,4 +1,4 @@
--- The lent tables as contracts speak of them: five buffers behind their references.
+-- The lent tables as contracts speak of them: five buffers behind their references, and a sixth for the masks of holders.
 use Prim.Native.Nat.{ℕ, _*_}
 use mathlib.Core.Path.{_≡_}
 use mathlib.Core.List.{List}
@@ -7,6 +7,7 @@ use denote.Ref.{RefT, now}
 use denote.Triple.Both.{Both}
 use Rattle.protocol_types.specs.Board.{slots, variables}
 use Rattle.protocol.specs.Tables.{Tables, tables}
+use Rattle.protocol.specs.Masks.{Masked, masked, masksOf}
 use Rattle.protocol_types.specs.declared.Setup.{Setup}
 
 -- a lent buffer, at entry and at exit
@@ -23,6 +24,21 @@ before b c m w g = lent (b .entry) (c .entry) (m .entry) (w .entry) (g .entry)
 
 abbrev pub after : Lent → Lent → Lent → Lent → Lent → Tables
 after b c m w g = lent (b .exit) (c .exit) (m .exit) (w .exit) (g .exit)
+
+-- ---- with the masks of holders (document 02, P7), h behind a sixth reference
+
+abbrev pub lentMasked : RefT (List ℕ) → RefT (List ℕ) → RefT (List ℕ) → RefT (List ℕ) → RefT (List ℕ) → RefT (List ℕ) → Masked
+lentMasked b c m w g h = masked (lent b c m w g) (now h)
+
+abbrev pub maskedBefore : Lent → Lent → Lent → Lent → Lent → Lent → Masked
+maskedBefore b c m w g h = lentMasked (b .entry) (c .entry) (m .entry) (w .entry) (g .entry) (h .entry)
+
+abbrev pub maskedAfter : Lent → Lent → Lent → Lent → Lent → Lent → Masked
+maskedAfter b c m w g h = lentMasked (b .exit) (c .exit) (m .exit) (w .exit) (g .exit) (h .exit)
+
+-- the lent masks are those of tables t
+abbrev pub TrueMasks : Setup → Tables → RefT (List ℕ) → Type 0
+TrueMasks s t h = now h ≡ masksOf s t
 
 -- ---- functions that are lent only some of the tables
 

@@ -1,6 +1,7 @@
 pub mod Tables
-pub mod Lent
 pub mod Soundness
+pub mod Masks
+pub mod Lent
 pub mod Rules
 pub mod Requests
 pub mod Accounts

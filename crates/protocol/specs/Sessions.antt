@@ -8,6 +8,7 @@ use lib.Seq.{sets}
 use lib.Dec.{eqb}
 use Rattle.protocol_types.specs.Board.{slots}
 use Rattle.protocol.specs.Tables.{Tables, tables, fresh}
+use Rattle.protocol.specs.Masks.{withMasks}
 use Rattle.protocol.specs.Accounts.{cycles, fetchAndUpdate, freshAccount, entered, billOf}
 use Rattle.protocol.specs.Engines.{answered, Outcome, run}
 use Rattle.protocol.specs.Runs.{startRefusal, started, looked, engine}
@@ -309,7 +310,7 @@ lentPasses w =
     let o : Outcome Tables = run (engine s) t (w .account) (read 1 1 ∷ []) (w .values) in
     eqb (o .answer .refusal) (w .runRefusal)
     && cond (eqb (w .runRefusal) 0) true (sameTables (o .tables) t && sameAccount (o .account) (w .account) && sameList (o .values) (w .values) && sameAnswer (o .answer) (answered 0 (w .runRefusal) 0))
-    && eqb (startRefusal s t) (w .startRefusal) && sameTables (started s t) (cond (eqb (w .startRefusal) 0) (fresh s) t)
+    && eqb (startRefusal s (withMasks s t)) (w .startRefusal) && sameTables (started s (withMasks s t) .tables) (cond (eqb (w .startRefusal) 0) (fresh s) t)
     && sameList (looked s (t .blocks) (t .counters) (t .words) (w .processor) (record { 0 = w .block })) (w .seen)
 
 unfoldable pub sevens : Setup → Rival

@@ -1,4 +1,5 @@
 pub mod Lists
+pub mod Bits
 pub mod Refusals
 pub mod Board
 pub mod Conditions
