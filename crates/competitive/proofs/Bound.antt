@@ -33,7 +33,8 @@ use Rattle.protocol.proofs.Holding.{holdsAt-false, holder-slot, payer-below, pa
 use Rattle.protocol.proofs.Lengths.{block-stored, counter-stored, sized-evicted, sized-released, sized-broadcast}
 use Rattle.protocol.proofs.Rival.{move-legal, line-empty, Completable, Completion, completion-legal, sized-played}
 use Rattle.competitive.proofs.Sums.{sum, sum-one}
-use Rattle.competitive.proofs.StepSound.{sound-cleared, sound-obtained, obtained-holds, sound-served}
+use Rattle.protocol.proofs.Slots.{released-counters, released-blocks, evicted-counter, evicted-block, evicted-zero, refetched-counter-same, refetched-block-same, refetched-counter, refetched-block, charged-counter-same, charged-counter, charged-block-same, charged-block, obtained-holds}
+use Rattle.competitive.proofs.StepSound.{sound-cleared, sound-obtained, sound-served}
 use Rattle.competitive.proofs.Potential.{Potential}
 
 -- ---- the rival's copies
@@ -43,83 +44,6 @@ held r k = at (r .held) k
 
 abbrev pub copy : Rival → ℕ → ℕ
 copy r k = at (r .blocks) k
-
--- ---- counters and block numbers after each part of a step
-
-pub released-counters : (s : Setup) (t : Tables) (b : Block) → released s t b .counters ≡ t .counters
-unfolding released writtenBack
-released-counters s t b = agree (λ (z : Tables). z .counters) (ltb (owner s t b) (s .processors)) {x = writtenBack s t (slot s (owner s t b) b)} {y = t} refl
-
-pub released-blocks : (s : Setup) (t : Tables) (b : Block) → released s t b .blocks ≡ t .blocks
-unfolding released writtenBack
-released-blocks s t b = agree (λ (z : Tables). z .blocks) (ltb (owner s t b) (s .processors)) {x = writtenBack s t (slot s (owner s t b) b)} {y = t} refl
-
-pub evicted-counter : (s : Setup) (t : Tables) (k m : ℕ) → m ≢ k → counter (evicted s t k) m ≡ counter t m
-unfolding evicted emptied saved writtenBack
-evicted-counter s t k m d =
-    at-set-other (saved s t k .counters) k 0 m d
-    ∙ ap (λ l. at l m) (agree (λ (z : Tables). z .counters) (marked t k) {x = writtenBack s t k} {y = t} refl)
-
-pub evicted-block : (s : Setup) (t : Tables) (k m : ℕ) → m ≢ k → block (evicted s t k) m .0 ≡ block t m .0
-unfolding evicted emptied saved writtenBack
-evicted-block s t k m d =
-    at-set-other (saved s t k .blocks) k 0 m d
-    ∙ ap (λ l. at l m) (agree (λ (z : Tables). z .blocks) (marked t k) {x = writtenBack s t k} {y = t} refl)
-
-pub evicted-zero : (s : Setup) (t : Tables) (k : ℕ) → counter (evicted s t k) k ≡ 0
-unfolding evicted emptied
-evicted-zero s t k = at-set-zero (saved s t k .counters) k
-
--- the engine's slots after a fetch into k
-module _ (s : Setup) (t : Tables) (z : Sized s t) (k : ℕ) (b : Block) (h : k < slots s) where
-  lengths₁ : Sized s (released s (evicted s t k) b)
-  lengths₁ = sized-released s (evicted s t k) (sized-evicted s t z k) b
-
-  pub refetched-counter-same : counter (fetched s (evicted s t k) k b) k ≡ fetchPrice s
-  unfolding fetched filled
-  refetched-counter-same = counter-stored s (released s (evicted s t k) b) lengths₁ k (fetchPrice s) h
-
-  pub refetched-block-same : block (fetched s (evicted s t k) k b) k .0 ≡ b .0
-  unfolding fetched filled
-  refetched-block-same = block-stored s (released s (evicted s t k) b) lengths₁ k (b .0) h
-
-  pub refetched-counter : (m : ℕ) → m ≢ k → counter (fetched s (evicted s t k) k b) m ≡ counter t m
-  unfolding fetched filled
-  refetched-counter m d =
-      at-set-other (released s (evicted s t k) b .counters) k (fetchPrice s) m d
-      ∙ ap (λ l. at l m) (released-counters s (evicted s t k) b) ∙ evicted-counter s t k m d
-
-  pub refetched-block : (m : ℕ) → m ≢ k → block (fetched s (evicted s t k) k b) m .0 ≡ block t m .0
-  unfolding fetched filled
-  refetched-block m d =
-      at-set-other (released s (evicted s t k) b .blocks) k (b .0) m d
-      ∙ ap (λ l. at l m) (released-blocks s (evicted s t k) b) ∙ evicted-block s t k m d
-
--- the slots after a counter falls
-module _ (s : Setup) (t : Tables) (z : Sized s t) (k : ℕ) (h : k < slots s) where
-  pub charged-counter-same : counter (charged s t k) k ≡ counter t k - 1
-  unfolding charged emptied
-  charged-counter-same =
-      choice (λ z. counter z k ≡ counter t k - 1) (eqb (counter t k) 1)
-      (λ e. counter-stored s t z k 0 h ∙ omega (arith, eqb-true (counter t k) 1 e))
-      (λ e. counter-stored s t z k (counter t k - 1) h)
-
-  pub charged-counter : (m : ℕ) → m ≢ k → counter (charged s t k) m ≡ counter t m
-  unfolding charged emptied
-  charged-counter m d =
-      choice (λ z. counter z m ≡ counter t m) (eqb (counter t k) 1)
-      (λ e. at-set-other (t .counters) k 0 m d) (λ e. at-set-other (t .counters) k (counter t k - 1) m d)
-
-  pub charged-block-same : 0 < counter t k - 1 → block (charged s t k) k .0 ≡ block t k .0
-  unfolding charged emptied
-  charged-block-same l =
-      choice (λ z. block z k .0 ≡ block t k .0) (eqb (counter t k) 1)
-      (λ e. absurd (omega (arith, l, eqb-true (counter t k) 1 e))) (λ e. refl)
-
-  pub charged-block : (m : ℕ) → m ≢ k → block (charged s t k) m .0 ≡ block t m .0
-  unfolding charged emptied
-  charged-block m d =
-      choice (λ z. block z m .0 ≡ block t m .0) (eqb (counter t k) 1) (λ e. at-set-other (t .blocks) k 0 m d) (λ e. refl)
 
 -- ---- the rival's tests
 
@@ -347,7 +271,7 @@ module _ (s : Setup) (ok : Fits s) (F W U : ℕ) (ψ : ℕ → ℕ → ℕ → �
         arith,
         obtained-bound t sd r i b hi kp,
         written-bound (obtained s t i b) (sound-obtained s ok t sd i b hi (block-lt s ok v n)) r i b hi kp (offsetOf s v) x
-            (completionBy s r i (Write v x) a) (offset-lt s ok v) (obtained-holds s ok t sd i b hi) (shared-pays r i v a),
+            (completionBy s r i (Write v x) a) (offset-lt s ok v) (obtained-holds s ok t (sd .lengths) i b hi) (shared-pays r i v a),
       )
   servedBy-bound t sd r i Clear a hi n em = omega (arith, cleared-bound t sd r i (s .lines) hi (le-refl _) (line-empty s r i em))
 

@@ -22,7 +22,7 @@ use Rattle.protocol_types.proofs.Board.{block-path, lineSlot-lt}
 use Rattle.protocol.proofs.Accounts.{bill-path}
 use Rattle.competitive.proofs.Sound.{writtenBack-memory-same, writtenBack-memory-other, emptied-word-other}
 use Rattle.competitive.proofs.StepSound.{marked-holds, sound-saved, sound-cleared}
-use Rattle.competitive.proofs.Bound.{evicted-counter, evicted-block, evicted-zero}
+use Rattle.protocol.proofs.Slots.{evicted-counter, evicted-block, evicted-zero}
 
 -- ---- one line is emptied
 

@@ -39,9 +39,9 @@ use Rattle.protocol.proofs.Engines.{all-valid}
 use Rattle.protocol.proofs.Accounts.{bill-path}
 use Rattle.protocol.proofs.Rival.{lines-empty, legal-completion, length-unmarked}
 use Rattle.competitive.proofs.Sound.{sound-writtenBack}
-use Rattle.competitive.proofs.StepSound.{marked-holds, placed, sound-evicted, sound-cleared, sound-released, released-unmarked, sound-obtained, obtained-holds, shared-facts, sound-served}
+use Rattle.protocol.proofs.Slots.{released-counters, released-blocks, evicted-zero, obtained-holds}
+use Rattle.competitive.proofs.StepSound.{marked-holds, placed, sound-evicted, sound-cleared, sound-released, released-unmarked, sound-obtained, shared-facts, sound-served}
 use Rattle.competitive.proofs.Fresh.{sound-fresh}
-use Rattle.competitive.proofs.Bound.{released-counters, released-blocks, evicted-zero}
 use Rattle.competitive.proofs.Clears.{cleared-zero}
 use Rattle.competitive.proofs.Lawful.{lawful}
 use Rattle.competitive.proofs.Tight.{rival-path}
@@ -408,11 +408,11 @@ servingBy-leads : (s : Setup) (ok : Fits s) (t : Tables) (sd : Sound s t) (i : �
 servingBy-leads s ok t sd i (Read v) qs hi n =
     let b : Block = blockOf s v in
     leads-on s _ (bill-path (omega arith) (omega arith) (omega arith)) (obtaining-leads s ok t sd (asks i (Read v) ∷ qs) i b hi (block-lt s ok v n))
-    (read-leads s (obtained s t i b) i v qs hi n (obtained-holds s ok t sd i b hi))
+    (read-leads s (obtained s t i b) i v qs hi n (obtained-holds s ok t (sd .lengths) i b hi))
 servingBy-leads s ok t sd i (Write v x) qs hi n =
     let b : Block = blockOf s v in
     leads-on s _ (bill-path (omega arith) (omega arith) (omega arith)) (obtaining-leads s ok t sd (asks i (Write v x) ∷ qs) i b hi (block-lt s ok v n))
-    (written-leads s ok (obtained s t i b) (sound-obtained s ok t sd i b hi (block-lt s ok v n)) i v x qs hi n (obtained-holds s ok t sd i b hi))
+    (written-leads s ok (obtained s t i b) (sound-obtained s ok t sd i b hi (block-lt s ok v n)) i v x qs hi n (obtained-holds s ok t (sd .lengths) i b hi))
 servingBy-leads s ok t sd i Clear qs hi n =
     leads-on s _ (bill-path (omega arith) (omega arith) (omega arith)) (clearing-leads s ok t sd (asks i Clear ∷ qs) i (s .lines) hi (le-refl _))
     (clear-leads s (cleared s t i (s .lines)) i qs hi (cleared-empty s t i))

@@ -24,6 +24,7 @@ use Rattle.protocol_types.proofs.Laws.{Same, same, apart, same?, choice, at-set
 use Rattle.protocol_types.proofs.Board.{block-path, block-number, lineSlot-lt, slot-lt, slot-inj, offset-lt, block-lt, processor-lt, slot-proper}
 use Rattle.protocol.proofs.Holding.{true-holdsAt, holder-slot, slot-holder, sharing-none, payer-below, payer-found, owner-found, owner-none}
 use Rattle.protocol.proofs.Lengths.{block-stored, counter-stored, mark-stored, sized-evicted, sized-released}
+use Rattle.protocol.proofs.Slots.{obtained-holds}
 use Rattle.competitive.proofs.Sound.{sound-writtenBack, sound-emptied, sound-filled, sound-writtenAlone, sound-broadcast, sound-charged}
 
 module _ (s : Setup) (ok : Fits s) (t : Tables) (sd : Sound s t) where
@@ -79,13 +80,6 @@ pub sound-fetched : (s : Setup) (ok : Fits s) (t : Tables) (sd : Sound s t) (k :
 unfolding fetched
 sound-fetched s ok t sd k b h hb pr = sound-filled s ok (released s t b) (sound-released s ok t sd b) k b h hb pr (λ m u e. released-unmarked s ok t sd b m u e)
 
--- the block stands in the slot that was filled
-pub filled-holds : (s : Setup) (ok : Fits s) (t : Tables) (k : ℕ) (b : Block) → Sized s t → k < slots s → holdsAt (filled s t k b) k b ≡ true
-unfolding filled
-filled-holds s ok t k b z h =
-    true-holdsAt (filled s t k b) k b
-    (omega (arith, counter-stored s t z k (fetchPrice s) h, ok .some-fetch)) (block-path (block-stored s t z k (b .0) h))
-
 -- sound tables with an unmarked copy in slot k
 pub record Broadcasted (s : Setup) (t : Tables) (k : ℕ) : Type 0 where
   pub sound : Sound s t
@@ -101,13 +95,6 @@ module _ (s : Setup) (ok : Fits s) (t : Tables) (sd : Sound s t) (i : ℕ) (b : 
       let hk = slot-lt s ok i b hi in
       choice (Sound s) (holds s t i b) (λ e. sd)
       (λ e. sound-fetched s ok (evicted s t k) (sound-evicted s ok t sd k hk) k b hk hb (slot-proper s ok i b))
-
-  pub obtained-holds : holds s (obtained s t i b) i b ≡ true
-  unfolding obtained holds fetched
-  obtained-holds =
-      choice (λ z. holdsAt z (slot s i b) b ≡ true) (holdsAt t (slot s i b) b) (λ e. e)
-      (λ e. filled-holds s ok (released s (evicted s t (slot s i b)) b) (slot s i b) b
-      (sized-released s (evicted s t (slot s i b)) (sized-evicted s t (sd .lengths) (slot s i b)) b) (slot-lt s ok i b hi))
 
   -- two holders: no copy is marked
   pub shared-unmarked : (j : ℕ) → j < s .processors → j ≢ i → holds s t i b ≡ true → holds s t j b ≡ true
@@ -178,7 +165,7 @@ sound-servedBy s ok t sd i (Read v) hi n = sound-obtained s ok t sd i (blockOf s
 sound-servedBy s ok t sd i (Write v x) hi n =
     let b : Block = blockOf s v in
     sound-written s ok (obtained s t i b) (sound-obtained s ok t sd i b hi (block-lt s ok v n)) i b hi (offsetOf s v) x (offset-lt s ok v)
-    (obtained-holds s ok t sd i b hi)
+    (obtained-holds s ok t (sd .lengths) i b hi)
 sound-servedBy s ok t sd i Clear hi n = sound-cleared s ok t sd i (s .lines) hi (le-refl _)
 
 pub sound-served : (s : Setup) (ok : Fits s) (t : Tables) (sd : Sound s t) (q : Request) → Valid s q → Sound s (served s t q)

@@ -30,9 +30,9 @@ use Rattle.protocol_types.proofs.Board.{block-path, block-number, variable-path
 use Rattle.protocol.proofs.Holding.{holder-slot, owner-found}
 use Rattle.protocol.proofs.Lengths.{counter-stored, block-stored, mark-stored}
 use Rattle.competitive.proofs.Sound.{writtenBack-memory-same, writtenBack-memory-other, emptied-word-other, filled-word-same, filled-word-other, broadcast-word-out, broadcast-word-in, broadcast-memory-same, broadcast-memory-other}
-use Rattle.competitive.proofs.StepSound.{sound-cleared, sound-saved, sound-evicted, sound-released, released-unmarked, sound-obtained, obtained-holds, alone-slots, shared-facts, sound-served}
+use Rattle.protocol.proofs.Slots.{released-counters, evicted-zero, obtained-holds}
+use Rattle.competitive.proofs.StepSound.{sound-cleared, sound-saved, sound-evicted, sound-released, released-unmarked, sound-obtained, alone-slots, shared-facts, sound-served}
 use Rattle.competitive.proofs.Fresh.{sound-fresh}
-use Rattle.competitive.proofs.Bound.{released-counters, evicted-zero}
 
 -- word o of block b is x: in every copy, and in memory where no copy is marked
 pub record Has (s : Setup) (t : Tables) (b : Block) (o x : ℕ) : Type 0 where
@@ -297,14 +297,14 @@ module _ (s : Setup) (ok : Fits s) (t : Tables) (sd : Sound s t) (i : ℕ) (hi :
       let b : Block = blockOf s w in
       rw (over-newer s w y v x) at
       (has-written s ok (obtained s t i b) (sound-obtained s ok t sd i b hi (block-lt s ok w n)) (blockOf s v) (offsetOf s v) x (offset-lt s ok v)
-      (stores-obtained w n v x has) i b hi (block-lt s ok w n) (offsetOf s w) y (offset-lt s ok w) (obtained-holds s ok t sd i b hi))
+      (stores-obtained w n v x has) i b hi (block-lt s ok w n) (offsetOf s w) y (offset-lt s ok w) (obtained-holds s ok t (sd .lengths) i b hi))
   stores-servedBy Clear n v x has = has-cleared s ok t sd (blockOf s v) (offsetOf s v) x (offset-lt s ok v) has i (s .lines) hi (le-refl _)
 
   -- a read supplies it
   pub read-value : (v : Variable) (x : ℕ) → v .0 < variables s → Stores s t v x → valueBy s t i (Read v) ≡ x
   read-value v x n has =
       let b : Block = blockOf s v in
-      let h = holder-slot s (obtained s t i b) i b (obtained-holds s ok t sd i b hi) in
+      let h = holder-slot s (obtained s t i b) i b (obtained-holds s ok t (sd .lengths) i b hi) in
       stores-obtained v n v x has .copies (slot s i b) (slot-lt s ok i b hi) (h .0) (h .1)
 
 pub stores-served : (s : Setup) (ok : Fits s) (t : Tables) (sd : Sound s t) (q : Request) → Valid s q → (v : Variable) (x : ℕ) → Stores s t v x

@@ -1,9 +1,10 @@
--- Serving a request keeps the tables usable: each step of the rules stores only numbers of blocks below M, or 0 (and so does emptying a line, `Inside`).
+-- Serving a request keeps the tables usable: each step of the rules stores only numbers of blocks below M, or 0 (and so does emptying a line, `Inside`),
+-- and a block in its proper line alone (`Proper`).
 -- Assumes nothing.
 use Prim.Native.Nat.{ℕ, _<_}
 use lib.Dec.{ltb, eqb}
 use Rattle.protocol_types.specs.Board.{Fits, slot, blockOf, offsetOf}
-use Rattle.protocol.specs.Tables.{Tables, counter, holds, sharing}
+use Rattle.protocol.specs.Tables.{Tables, Sized, counter, holds, sharing}
 use Rattle.protocol.specs.Rules.{writtenBack, filled, evicted, owner, released, fetched, obtained, payer, writtenAlone, broadcast, charged, written}
 use Rattle.protocol_types.specs.Conditions.{Named, Valid}
 use Rattle.protocol.specs.Requests.{servedBy, served}
@@ -14,7 +15,10 @@ use Rattle.protocol_types.specs.declared.Operation.{Operation}
 use Rattle.protocol_types.specs.declared.Operation.the-variants.{Read, Write, Clear}
 use Rattle.protocol_types.proofs.Laws.{choice, at-set}
 use Rattle.protocol_types.proofs.Board.{block-lt}
-use Rattle.protocol.proofs.Lengths.{sized-served}
+use Rattle.protocol.proofs.Lengths.{sized-obtained, sized-served}
+use Rattle.protocol.proofs.Slots.{obtained-holds}
+use Rattle.engine_masks.specs.Copies.{Proper}
+use Rattle.engine_masks.proofs.Proper.{proper-obtained, proper-written, proper-cleared}
 use Rattle.engine_evictions.proofs.Inside.{Inside, inside-emptied, inside-evicted, inside-cleared}
 use Rattle.engine.specs.Usable.{Usable}
 
@@ -51,9 +55,17 @@ module _ (s : Setup) (f : Fits s) where
       inside-written (obtained s t i (blockOf s v)) i (blockOf s v) (offsetOf s v) x (inside-obtained t i (blockOf s v) (block-lt s f v l) h)
   inside-served-by t i Clear l h = inside-cleared s f t i (s .lines) h
 
+  proper-served-by : (t : Tables) → Sized s t → Proper s t → (i : ℕ) → i < s .processors → (o : Operation) → Proper s (servedBy s t i o)
+  proper-served-by t z h i hi (Read v) = proper-obtained s f t z h i (blockOf s v) hi
+  proper-served-by t z h i hi (Write v x) =
+      let b = blockOf s v in
+      proper-written s f (obtained s t i b) (sized-obtained s t z i b) (proper-obtained s f t z h i b hi) i b (offsetOf s v) x hi (obtained-holds s f t z i b hi)
+  proper-served-by t z h i hi Clear = proper-cleared s f t i (s .lines) h
+
   pub usable-served : (t : Tables) (q : Request) → Valid s q → Usable s t → Usable s (served s t q)
   unfolding served
   usable-served t q v u = record {
     lengths = sized-served s t (u .lengths) q;
     named = inside-served-by t (q .processor) (q .operation) (v .operation) (u .named);
+    proper = proper-served-by t (u .lengths) (u .proper) (q .processor) (v .processor) (q .operation);
   }

@@ -3,6 +3,7 @@ use engine_evictions::clear;
 use engine_evictions::evict;
 use engine_holders::holds;
 use engine_lines::fetch;
+use engine_masks::gain;
 use engine_writes::write;
 use parts::word_of;
 use protocol_types::Bill;
@@ -14,7 +15,8 @@ use protocol_types::Variable;
 ghost use mathlib.Core.Path.{_≡_};
 ghost use Prim.Native.Nat.{_<_};
 ghost use Rattle.protocol_types.specs.Board.{Fits, variables};
-ghost use Rattle.protocol.specs.Lent.{lent, before, after};
+ghost use Rattle.protocol.specs.Lent.{lent, before, after, TrueMasks};
+ghost use Rattle.protocol.specs.Masks.{masksOf};
 ghost use Rattle.protocol.specs.Rules.{obtained};
 ghost use Rattle.protocol_types.specs.Conditions.{Valid};
 ghost use Rattle.protocol.specs.Requests.{valueBy, billBy, servedBy, value, bill, served};
@@ -36,13 +38,16 @@ fn obtain(
     marks: &mut [u32],
     words: &mut [u32],
     memory: &mut [u32],
+    masks: &mut [u8],
 ) -> Bill
     requires { ⌜ Fits setup ⌝ }
     requires { ⌜ processor < setup .processors ⌝ }
     requires { ⌜ block .0 < setup .blocks ⌝ }
     requires { ⌜ Usable setup (lent blocks counters marks words memory) ⌝ }
+    requires { ⌜ TrueMasks setup (lent blocks counters marks words memory) masks ⌝ }
     ensures { λ r. ⌜ r ≡ obtainBill setup (before blocks counters marks words memory) processor block ⌝ }
     ensures { λ _. ⌜ after blocks counters marks words memory ≡ obtained setup (before blocks counters marks words memory) processor block ⌝ }
+    ensures { λ _. ⌜ now (masks .exit) ≡ masksOf setup (after blocks counters marks words memory) ⌝ }
 {
     if holds(setup, processor, block, blocks, counters) {
         return Bill {
@@ -52,8 +57,31 @@ fn obtain(
         };
     }
     let k = setup.slot(processor, block);
-    let write_back = evict(setup, k, blocks, counters, marks, words, memory);
-    fetch(setup, k, block, blocks, counters, marks, words, memory);
+    let write_back = evict(
+        setup,
+        processor,
+        k,
+        blocks,
+        counters,
+        marks,
+        words,
+        memory,
+        masks,
+    );
+    let b = block.0 as usize;
+    let mask = masks[b];
+    fetch(
+        setup,
+        k,
+        block,
+        mask,
+        blocks,
+        counters,
+        marks,
+        words,
+        memory,
+    );
+    gain(block, processor, masks);
     Bill {
         fetch: setup.fetch_price(),
         write_back: write_back,
@@ -83,20 +111,33 @@ fn serve_access(
     marks: &mut [u32],
     words: &mut [u32],
     memory: &mut [u32],
+    masks: &mut [u8],
 ) -> Served
     requires { ⌜ Fits setup ⌝ }
     requires { ⌜ i < setup .processors ⌝ }
     requires { ⌜ access .variable .0 < variables setup ⌝ }
     requires { ⌜ Usable setup (lent blocks counters marks words memory) ⌝ }
+    requires { ⌜ TrueMasks setup (lent blocks counters marks words memory) masks ⌝ }
     ensures { λ r. ⌜ r .value ≡ valueBy setup (before blocks counters marks words memory) i (operationOf access) ⌝ }
     ensures { λ r. ⌜ r .bill ≡ billBy setup (before blocks counters marks words memory) i (operationOf access) ⌝ }
     ensures { λ _. ⌜ after blocks counters marks words memory ≡ servedBy setup (before blocks counters marks words memory) i (operationOf access) ⌝ }
+    ensures { λ _. ⌜ now (masks .exit) ≡ masksOf setup (after blocks counters marks words memory) ⌝ }
 {
     let variable = access.variable;
     let effect = access.effect;
     let block = setup.block_of(variable);
     let offset = setup.offset_of(variable);
-    let bill = obtain(setup, i, block, blocks, counters, marks, words, memory);
+    let bill = obtain(
+        setup,
+        i,
+        block,
+        blocks,
+        counters,
+        marks,
+        words,
+        memory,
+        masks,
+    );
     match effect {
         Effect::Supply => {
             let word = word_of(setup, setup.slot(i, block), offset, words);
@@ -117,6 +158,7 @@ fn serve_access(
                 marks,
                 words,
                 memory,
+                masks,
             );
             Served {
                 value: value,
@@ -139,15 +181,18 @@ fn serve_clear(
     marks: &mut [u32],
     words: &mut [u32],
     memory: &mut [u32],
+    masks: &mut [u8],
 ) -> Served
     requires { ⌜ Fits setup ⌝ }
     requires { ⌜ i < setup .processors ⌝ }
     requires { ⌜ Usable setup (lent blocks counters marks words memory) ⌝ }
+    requires { ⌜ TrueMasks setup (lent blocks counters marks words memory) masks ⌝ }
     ensures { λ r. ⌜ r .value ≡ valueBy setup (before blocks counters marks words memory) i Operation.Clear ⌝ }
     ensures { λ r. ⌜ r .bill ≡ billBy setup (before blocks counters marks words memory) i Operation.Clear ⌝ }
     ensures { λ _. ⌜ after blocks counters marks words memory ≡ servedBy setup (before blocks counters marks words memory) i Operation.Clear ⌝ }
+    ensures { λ _. ⌜ now (masks .exit) ≡ masksOf setup (after blocks counters marks words memory) ⌝ }
 {
-    let write_back = clear(setup, i, blocks, counters, marks, words, memory);
+    let write_back = clear(setup, i, blocks, counters, marks, words, memory, masks);
     Served {
         value: 0,
         bill: Bill {
@@ -167,13 +212,16 @@ pub fn serve(
     marks: &mut [u32],
     words: &mut [u32],
     memory: &mut [u32],
+    masks: &mut [u8],
 ) -> Served
     requires { ⌜ Fits setup ⌝ }
     requires { ⌜ Valid setup request ⌝ }
     requires { ⌜ Usable setup (lent blocks counters marks words memory) ⌝ }
+    requires { ⌜ TrueMasks setup (lent blocks counters marks words memory) masks ⌝ }
     ensures { λ r. ⌜ r .value ≡ value setup (before blocks counters marks words memory) request ⌝ }
     ensures { λ r. ⌜ r .bill ≡ bill setup (before blocks counters marks words memory) request ⌝ }
     ensures { λ _. ⌜ after blocks counters marks words memory ≡ served setup (before blocks counters marks words memory) request ⌝ }
+    ensures { λ _. ⌜ now (masks .exit) ≡ masksOf setup (after blocks counters marks words memory) ⌝ }
 {
     let operation = request.operation;
     let access = match operation {
@@ -194,6 +242,7 @@ pub fn serve(
                 marks,
                 words,
                 memory,
+                masks,
             );
         }
     };
@@ -206,5 +255,6 @@ pub fn serve(
         marks,
         words,
         memory,
+        masks,
     )
 }

@@ -1,4 +1,5 @@
 // A line of a cache emptied, its block written back, and a whole cache cleared.
+use engine_masks::lose_at;
 use parts::clear_row;
 use parts::copy_row;
 use protocol_types::Setup;
@@ -8,7 +9,9 @@ ghost use Prim.Native.Nat.{ℕ, _<_};
 ghost use Rattle.protocol_types.specs.Lists.{at};
 ghost use Rattle.protocol_types.specs.Board.{Fits, slots};
 ghost use Rattle.protocol.specs.Tables.{Sized};
-ghost use Rattle.protocol.specs.Lent.{lent, before, after, unlent, PerSlot, PerSlotWord, PerVariable};
+ghost use Rattle.protocol.specs.Lent.{lent, before, after, unlent, PerSlot, PerSlotWord, PerVariable, TrueMasks};
+ghost use Rattle.protocol.specs.Masks.{masksOf};
+ghost use Rattle.engine_masks.specs.Copies.{Proper, StandsAt};
 ghost use Rattle.protocol.specs.Rules.{emptied, writtenBack, saved, saveCycles, evicted, cleared, clearCycles};
 
 // Slot k becomes empty.
@@ -71,22 +74,29 @@ fn save(
     setup.write_back_price()
 }
 
-// The block at slot k leaves. Returns the cycles.
+// The block at slot k of a processor leaves. Returns the cycles.
 pub fn evict(
     setup: Setup,
+    processor: u32,
     k: usize,
     blocks: &mut [u32],
     counters: &mut [u32],
     marks: &mut [u32],
     words: &mut [u32],
     memory: &mut [u32],
+    masks: &mut [u8],
 ) -> u32
-    requires { ⌜ k < slots setup ⌝ }
+    requires { ⌜ Fits setup ⌝ }
+    requires { ⌜ (processor < setup .processors) × (k < slots setup) ⌝ }
     requires { ⌜ at (now blocks) k < setup .blocks ⌝ }
+    requires { ⌜ StandsAt setup (lent blocks counters marks words memory) processor k ⌝ }
     requires { ⌜ Sized setup (lent blocks counters marks words memory) ⌝ }
+    requires { ⌜ TrueMasks setup (lent blocks counters marks words memory) masks ⌝ }
     ensures { λ r. ⌜ r ≡ saveCycles setup (before blocks counters marks words memory) k ⌝ }
     ensures { λ _. ⌜ after blocks counters marks words memory ≡ evicted setup (before blocks counters marks words memory) k ⌝ }
+    ensures { λ _. ⌜ now (masks .exit) ≡ masksOf setup (after blocks counters marks words memory) ⌝ }
 {
+    lose_at(processor, k, blocks, counters, masks);
     let cycles = save(setup, k, blocks, marks, words, memory);
     empty_line(setup, k, blocks, counters, marks, words);
     cycles
@@ -101,19 +111,33 @@ pub fn clear(
     marks: &mut [u32],
     words: &mut [u32],
     memory: &mut [u32],
+    masks: &mut [u8],
 ) -> u32
     requires { ⌜ Fits setup ⌝ }
     requires { ⌜ processor < setup .processors ⌝ }
     requires { ⌜ ((k : ℕ) → at (now blocks) k < setup .blocks) ⌝ }
+    requires { ⌜ Proper setup (lent blocks counters marks words memory) ⌝ }
     requires { ⌜ Sized setup (lent blocks counters marks words memory) ⌝ }
+    requires { ⌜ TrueMasks setup (lent blocks counters marks words memory) masks ⌝ }
     ensures { λ r. ⌜ r ≡ clearCycles setup (before blocks counters marks words memory) processor (setup .lines) ⌝ }
     ensures { λ _. ⌜ after blocks counters marks words memory ≡ cleared setup (before blocks counters marks words memory) processor (setup .lines) ⌝ }
+    ensures { λ _. ⌜ now (masks .exit) ≡ masksOf setup (after blocks counters marks words memory) ⌝ }
 {
     let n = setup.lines;
     let mut cycles = 0;
     for l in 0..n {
         let k = setup.line_slot(processor, l);
-        cycles += evict(setup, k, blocks, counters, marks, words, memory);
+        cycles += evict(
+            setup,
+            processor,
+            k,
+            blocks,
+            counters,
+            marks,
+            words,
+            memory,
+            masks,
+        );
     }
     cycles
 }

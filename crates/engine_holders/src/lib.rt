@@ -1,16 +1,20 @@
-// Who holds a block: the searches over processors, and the update of its copies.
+// Who holds a block: the searches over processors, those over the set bits of a block's mask (document 02, P7), and the update of its copies.
+use bits::lowest;
+use bits::without_bit;
+use bits::without_lowest;
 use parts::set_word;
 use protocol_types::Block;
 use protocol_types::Setup;
 ghost use mathlib.Core.Path.{_≡_};
 ghost use mathlib.Core.List.{List};
-ghost use Prim.Native.Nat.{ℕ, _<_};
+ghost use Prim.Native.Nat.{ℕ, _^_, _≤_, _<_};
 ghost use lib.ListN.{length};
 ghost use Rattle.protocol_types.specs.Board.{Fits};
 ghost use Rattle.protocol.specs.Tables.{holdsAt, holds, sharing};
+ghost use Rattle.protocol.specs.Masks.{holders};
 ghost use Rattle.protocol.specs.Lent.{before, unlent, PerSlot, PerSlotWord};
 ghost use Rattle.protocol.specs.Rules.{payer, owner, updatedCopies};
-ghost use Rattle.engine_holders.specs.Searches.{otherHolds, otherHolder, weaker, owns, updatedCopy};
+ghost use Rattle.engine_holders.specs.Searches.{otherHolds, otherHolder, weaker};
 
 // Whether slot k holds a block. The block number is tested first: in a full cache it alone can differ.
 fn line_holds(k: usize, block: Block, blocks: &[u32], counters: &[u32]) -> bool
@@ -54,8 +58,8 @@ fn other_holds(
 }
 
 // The lowest-numbered other holder; the number of processors where there is none.
-// The search for the payer starts with it, and it counts processors in a byte (document 02, P3). A byte is enough, because the count ends at N and N is at
-// most 8 (`few-processors` of `Fits`): `add-other` in proofs/other_holder proves that the next number always fits.
+// It counts processors in a byte, as the search for the payer does (document 02, P3). A byte is enough, because the count ends at N and N is at most 8
+// (`few-processors` of `Fits`): `add-other` in proofs/other_holder proves that the next number always fits.
 fn other_holder(setup: Setup, processor: u32, block: Block, blocks: &[u32], counters: &[u32]) -> u32
     requires { ⌜ Fits setup ⌝ }
     requires { ⌜ PerSlot setup blocks × PerSlot setup counters ⌝ }
@@ -81,24 +85,16 @@ pub fn shares(setup: Setup, processor: u32, block: Block, blocks: &[u32], counte
     other_holder(setup, processor, block, blocks, counters) < setup.processors
 }
 
-// Processor j if it is another holder and its counter is smaller than that of processor `weakest`; else `weakest`.
-fn weaker(
-    setup: Setup,
-    processor: u32,
-    block: Block,
-    weakest: u32,
-    j: u32,
-    blocks: &[u32],
-    counters: &[u32],
-) -> u32
+// Of two processors the one whose line for a block has the smaller counter, `weakest` if they are equal; j where `weakest` is none (the number of processors).
+fn weaker(setup: Setup, block: Block, weakest: u32, j: u32, counters: &[u32]) -> u32
     requires { ⌜ Fits setup ⌝ }
-    requires { ⌜ (weakest < setup .processors) × (j < setup .processors) ⌝ }
-    requires { ⌜ PerSlot setup blocks × PerSlot setup counters ⌝ }
-    ensures { λ r. ⌜ ((m w g : List ℕ) → r ≡ weaker setup (before blocks counters (unlent m) (unlent w) (unlent g)) processor block weakest j) ⌝ }
-    ensures { λ r. ⌜ r < setup .processors ⌝ }
+    requires { ⌜ (weakest ≤ setup .processors) × (j < setup .processors) ⌝ }
+    requires { ⌜ PerSlot setup counters ⌝ }
+    ensures { λ r. ⌜ ((b m w g : List ℕ) → r ≡ weaker setup (before (unlent b) counters (unlent m) (unlent w) (unlent g)) block weakest j) ⌝ }
+    ensures { λ r. ⌜ r ≤ setup .processors ⌝ }
 {
-    if !other_holds(setup, processor, block, j, blocks, counters) {
-        return weakest;
+    if weakest == setup.processors {
+        return j;
     }
     if counters[setup.slot(weakest, block)] <= counters[setup.slot(j, block)] {
         return weakest;
@@ -107,87 +103,43 @@ fn weaker(
 }
 
 // The payer of a write: the other holder with the smallest counter, the lowest processor among equals; the number of processors where there is none.
-// From the first other holder on, every processor is looked at; this search counts in a byte too (P3).
-pub fn payer(setup: Setup, processor: u32, block: Block, blocks: &[u32], counters: &[u32]) -> u32
+// The search visits the set bits of the mask only, from which the writer's is taken first, and counts processors in a byte (document 02, P3), which is
+// enough for the number of a bit.
+pub fn payer(setup: Setup, processor: u32, block: Block, mask: u8, counters: &[u32]) -> u32
     requires { ⌜ Fits setup ⌝ }
-    requires { ⌜ PerSlot setup blocks × PerSlot setup counters ⌝ }
-    ensures { λ r. ⌜ ((m w g : List ℕ) → r ≡ payer setup (before blocks counters (unlent m) (unlent w) (unlent g)) processor block) ⌝ }
+    requires { ⌜ processor < setup .processors ⌝ }
+    requires { ⌜ mask < 2 ^ setup .processors ⌝ }
+    requires { ⌜ PerSlot setup counters ⌝ }
+    ensures { λ r. ⌜ ((b m w g : List ℕ) → mask ≡ holders setup (before (unlent b) counters (unlent m) (unlent w) (unlent g)) block
+        → r ≡ payer setup (before (unlent b) counters (unlent m) (unlent w) (unlent g)) processor block) ⌝ }
 {
-    let n = setup.processors;
-    let first = other_holder(setup, processor, block, blocks, counters);
-    if n <= first {
-        return n;
-    }
-    let mut weakest = first;
-    let mut next: u8 = first as u8 + 1;
-    while (next as u32) < n {
-        weakest = weaker(
-            setup,
-            processor,
-            block,
-            weakest,
-            next as u32,
-            blocks,
-            counters,
-        );
-        next += 1;
+    let mut weakest = setup.processors;
+    let mut others = without_bit(mask, processor as u8);
+    while others != 0 {
+        let j = lowest(others);
+        weakest = weaker(setup, block, weakest, j as u32, counters);
+        others = without_lowest(others);
     }
     weakest
 }
 
-// Whether processor j has a block marked.
-fn owns(setup: Setup, block: Block, j: u32, blocks: &[u32], counters: &[u32], marks: &[u32]) -> bool
-    requires { ⌜ Fits setup ⌝ }
-    requires { ⌜ j < setup .processors ⌝ }
-    requires { ⌜ PerSlot setup blocks × PerSlot setup counters × PerSlot setup marks ⌝ }
-    ensures { λ r. ⌜ ((w g : List ℕ) → r ≡ owns setup (before blocks counters marks (unlent w) (unlent g)) block j) ⌝ }
-{
-    let k = setup.slot(j, block);
-    if marks[k] != 1 {
-        return false;
-    }
-    line_holds(k, block, blocks, counters)
-}
-
 // The processor that has a block marked; the number of processors where none has.
-pub fn owner(setup: Setup, block: Block, blocks: &[u32], counters: &[u32], marks: &[u32]) -> u32
+pub fn owner(setup: Setup, block: Block, mask: u8, marks: &[u32]) -> u32
     requires { ⌜ Fits setup ⌝ }
-    requires { ⌜ PerSlot setup blocks × PerSlot setup counters × PerSlot setup marks ⌝ }
-    ensures { λ r. ⌜ ((w g : List ℕ) → r ≡ owner setup (before blocks counters marks (unlent w) (unlent g)) block) ⌝ }
+    requires { ⌜ mask < 2 ^ setup .processors ⌝ }
+    requires { ⌜ PerSlot setup marks ⌝ }
+    ensures { λ r. ⌜ ((b c w g : List ℕ) → mask ≡ holders setup (before (unlent b) (unlent c) marks (unlent w) (unlent g)) block
+        → r ≡ owner setup (before (unlent b) (unlent c) marks (unlent w) (unlent g)) block) ⌝ }
 {
-    let n = setup.processors;
-    let mut j = 0;
-    while j < n {
-        if owns(setup, block, j, blocks, counters, marks) {
-            break;
+    let mut holders = mask;
+    while holders != 0 {
+        let j = lowest(holders) as u32;
+        if marks[setup.slot(j, block)] == 1 {
+            return j;
         }
-        j += 1;
+        holders = without_lowest(holders);
     }
-    j
-}
-
-// Processor j's copy of a block, if it has one, takes a word.
-fn update_copy(
-    setup: Setup,
-    block: Block,
-    offset: u32,
-    value: u32,
-    j: u32,
-    blocks: &[u32],
-    counters: &[u32],
-    words: &mut [u32],
-)
-    requires { ⌜ Fits setup ⌝ }
-    requires { ⌜ j < setup .processors ⌝ }
-    requires { ⌜ offset < setup .words ⌝ }
-    requires { ⌜ PerSlot setup blocks × PerSlot setup counters × PerSlotWord setup words ⌝ }
-    ensures { λ _. ⌜ ((m g : List ℕ) → now (words .exit) ≡ updatedCopy setup (before blocks counters (unlent m) words (unlent g)) block offset value j) ⌝ }
-{
-    let k = setup.slot(j, block);
-    if !line_holds(k, block, blocks, counters) {
-        return;
-    }
-    set_word(setup, k, offset, value, words);
+    setup.processors
 }
 
 // Every copy of a block takes a word.
@@ -196,18 +148,21 @@ pub fn update_copies(
     block: Block,
     offset: u32,
     value: u32,
-    blocks: &[u32],
-    counters: &[u32],
+    mask: u8,
     words: &mut [u32],
 )
     requires { ⌜ Fits setup ⌝ }
     requires { ⌜ offset < setup .words ⌝ }
-    requires { ⌜ PerSlot setup blocks × PerSlot setup counters × PerSlotWord setup words ⌝ }
-    ensures { λ _. ⌜ ((m g : List ℕ) → now (words .exit)
-        ≡ updatedCopies setup (before blocks counters (unlent m) words (unlent g)) block offset value (setup .processors)) ⌝ }
+    requires { ⌜ mask < 2 ^ setup .processors ⌝ }
+    requires { ⌜ PerSlotWord setup words ⌝ }
+    ensures { λ _. ⌜ ((b c m g : List ℕ) → mask ≡ holders setup (before (unlent b) (unlent c) (unlent m) words (unlent g)) block
+        → now (words .exit)
+        ≡ updatedCopies setup (before (unlent b) (unlent c) (unlent m) words (unlent g)) block offset value (setup .processors)) ⌝ }
 {
-    let n = setup.processors;
-    for j in 0..n {
-        update_copy(setup, block, offset, value, j, blocks, counters, words);
+    let mut copies = mask;
+    while copies != 0 {
+        let k = setup.slot(lowest(copies) as u32, block);
+        set_word(setup, k, offset, value, words);
+        copies = without_lowest(copies);
     }
 }

@@ -1,5 +1,6 @@
 -- The counter decides: at 1 the line is emptied.
 use borrow.Author.Needs.{needs}
+use mathlib.Core.Path.{sym}
 use borrow.Author.Tests.{eq-eqb, ne-eqb}
 use denote.Ref.{now}
 use Rattle.protocol_types.specs.Lists.{at}
@@ -9,17 +10,19 @@ use Rattle.engine_lines.proofs.charge.Tie as tie
 
 returns : tie.Need-returns
 unfolding charged
-returns c g =
+returns c =
     let empty-line′ = c .before .before .before .before .before .before .before .before in
     let if1′ = empty-line′ .before .before .before .before .before in
     let start = if1′ .before .before .before .before .before .before in
-    rw (eq-eqb (at (now (start .args .counters)) (start .args .k)) 1 (if1′ .if1 .taken)) (empty-line′ .empty-line .ensures g)
+    let e = eq-eqb (at (now (start .args .counters)) (start .args .k)) 1 (if1′ .if1 .taken) in
+    (sym e, λ g. rw e (empty-line′ .empty-line .ensures g))
 
 returns-2 : tie.Need-returns-2
 unfolding charged
-returns-2 c g =
+returns-2 c =
     let start = c .before .before .before .before .before .before .before in
-    rw (ne-eqb (at (now (start .args .counters)) (start .args .k)) 1 (c .before .if1 .left))
+    let e = ne-eqb (at (now (start .args .counters)) (start .args .k)) 1 (c .before .if1 .left) in
+    (sym e, λ g. rw e)
 
 pub charge-spec : {M : Type 1} → statement M
 charge-spec =

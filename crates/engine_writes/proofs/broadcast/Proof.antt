@@ -2,6 +2,8 @@
 use borrow.Author.Needs.{needs}
 use native.Mathlib.Omega.{arith}
 use denote.Ref.{now}
+use Rattle.protocol.specs.Tables.{holdsAt, holds}
+use Rattle.protocol.specs.Masks.{holders}
 use Rattle.protocol.specs.Rules.{broadcast}
 use Rattle.protocol_types.proofs.Board.{wordIndex-lt}
 use Rattle.engine_writes.proofs.broadcast.Statement.{statement}
@@ -9,17 +11,15 @@ use Rattle.engine_writes.proofs.broadcast.Tie as tie
 
 set-word-requires : tie.Need-set-word-requires
 set-word-requires c κs =
-    let start = c .before .before .before .before .before .before .before .before .before .before .before in
-    let a = start .args in
-    omega (arith, wordIndex-lt (a .setup) (start .pre .0) (a .block .0) (a .setup .blocks) (a .offset) (start .pre .1 .1 .0) (start .pre .1 .1 .1 .0))
+    let a = c .before .before .before .before .before .before .before .before .before .args in
+    let p = c .before .before .before .before .before .before .before .before .before .pre in
+    omega (arith, wordIndex-lt (a .setup) (p .0) (a .block .0) (a .setup .blocks) (a .offset) (p .1 .1 .0) (p .1 .1 .1 .0))
 
 returns : tie.Need-returns
 unfolding broadcast
-returns c m =
-    let set-word′ = c .before .before .before in
-    let update-copies′ = set-word′ .before .before .before .before .before in
-    let start = update-copies′ .before .before .before .before .before .before .before in
-    simp (update-copies′ .update-copies .ensures m (now (start .args .memory)), set-word′ .set-word .ensures, c .fetch-price .ensures)
+returns c b m e =
+    let a = c .before .before .before .before .before .before .before .before .before .before .before .before .before .args in
+    simp (c .before .before .before .before .before .before .before .before .update-copies .ensures b (now (a .counters)) m (now (a .memory)) e, c .before .before .before .set-word .ensures, c .fetch-price .ensures)
 
 pub broadcast-spec : {M : Type 1} → statement M
 broadcast-spec =
