@@ -15,7 +15,7 @@ use Rattle.protocol.specs.Rules.{evicted, fetched, writtenAlone, broadcast, cha
 use Rattle.protocol_types.specs.declared.Setup.{Setup}
 use Rattle.protocol_types.specs.declared.Block.{Block}
 use Rattle.protocol_types.proofs.Laws.{choice, at-set, at-set-other}
-use Rattle.protocol_types.proofs.Board.{block-path, row-mod, lineSlot-lt}
+use Rattle.protocol_types.proofs.Board.{block-path, row-mod, lineSlot-lt, line-lt}
 use Rattle.protocol.proofs.Holding.{holdsAt-true, true-holdsAt}
 use Rattle.protocol.proofs.Slots.{evicted-counter, evicted-block, evicted-zero, refetched-counter-same, refetched-block-same, refetched-counter, refetched-block, charged-counter-same, charged-counter, charged-block}
 use Rattle.engine_masks.specs.Copies.{gained, lost, lostAt, Proper, StandsAt}
@@ -35,6 +35,10 @@ none-other t k c d = simp (ne-eqb (block t k .0) (c .0) (λ z. d (sym (block-pat
 pub stands : (s : Setup) (ok : Fits s) (t : Tables) → Proper s t → (i l : ℕ) → i < s .processors → l < s .lines → StandsAt s t i (lineSlot s i l)
 unfolding slot
 stands s ok t h i l hi hl p = ap (λ x. i * s .lines + x) (sym (h (lineSlot s i l) (lineSlot-lt s ok i l hi hl) p) ∙ row-mod i (s .lines) l hl)
+
+pub stands-for : (s : Setup) (ok : Fits s) (t : Tables) → Proper s t → (i : ℕ) (b : Block) → i < s .processors → StandsAt s t i (slot s i b)
+unfolding slot
+stands-for s ok t h i b hi = stands s ok t h i (lineOf s b) hi (line-lt s ok b)
 
 module _ (s : Setup) (ok : Fits s) (t : Tables) where
   -- ---- the block in the way leaves

@@ -10,20 +10,20 @@ use borrow.Author.Tests.{eqb-true, eq-eqb}
 use Rattle.protocol_types.specs.Lists.{at, zeros, listed, tail}
 use Rattle.protocol_types.specs.Bits.{maskOf}
 use Rattle.protocol_types.specs.Refusals.{noRefusal}
-use Rattle.protocol_types.specs.Board.{slots, slot}
 use Rattle.protocol.specs.Tables.{Tables, sized, fresh, holds, holdsAt}
 use Rattle.protocol.specs.Soundness.{sound}
 use Rattle.protocol.specs.Masks.{holders, holdersAt, masksOf, Masked, masked, withMasks, freshMasked, sizedMasked, trueMasks, soundMasked}
 use Rattle.protocol.specs.Requests.{served, value, bill}
 use Rattle.protocol.specs.Accounts.{entered}
 use Rattle.protocol.specs.Engines.{Outcome, onward, endedBy, runFrom, run, Run, State, outcomeOf, leftBy, outcomes, runs}
-use Rattle.protocol.specs.Runs.{runRefusal, maskedRefusal, engine, maskedEngine, opening, maskedOpening}
+use Rattle.protocol.specs.Runs.{runRefusal, maskedRefusal, engine, maskedEngine, opening, maskedOpening, maskedOutcome, maskedOutcomes, maskedState}
 use Rattle.protocol_types.specs.Conditions.{requestRefusal}
 use Rattle.protocol_types.specs.declared.Setup.{Setup}
+use Rattle.protocol_types.specs.declared.Block.{Block}
 use Rattle.protocol_types.specs.declared.Request.{Request}
 use Rattle.protocol_types.specs.declared.Account.{Account}
 use Rattle.protocol.proofs.Runs.{RunChecked, checks-passed}
-use Rattle.protocol_types.proofs.Laws.{at-zeros, and-true, both-true, all-true, true-all}
+use Rattle.protocol_types.proofs.Laws.{at-zeros, both-true, all-true, true-all}
 
 -- ---- lists by their elements
 
@@ -63,6 +63,14 @@ module _ (s : Setup) (t : Tables) where
   unfolding trueMasks
   masks-true = true-all (s .blocks) _ (λ b h. eq-eqb _ _ (masks-at b h))
 
+-- a block's mask, read where the masks are true
+pub mask-read : (s : Setup) (t : Tables) {h : List ℕ} (b : Block) → h ≡ masksOf s t → b .0 < s .blocks → at h (b .0) ≡ holders s t b
+mask-read s t b e hb = rw e (masks-at s t (b .0) hb)
+
+-- true masks are a byte for each block
+pub length-masks : (s : Setup) (t : Tables) {h : List ℕ} → h ≡ masksOf s t → length h ≡ s .blocks
+length-masks s t e = rw e (masks-length s t)
+
 -- the test of 20, with that of 2
 pub true-masks : (s : Setup) (x : Masked) → length (x .masks) ≡ s .blocks → trueMasks s x ≡ true → x .masks ≡ masksOf s (x .tables)
 unfolding trueMasks
@@ -79,14 +87,14 @@ unfolding freshMasked fresh holders holds holdsAt
 fresh-masked s =
     ap (masked (fresh s))
     (masks-are s (fresh s) (zeros (s .blocks)) (length-replicate (s .blocks) 0)
-    (λ b h. at-zeros (s .blocks) b ∙ sym (mask-none (s .processors) _ (λ i. rw (at-zeros (slots s) (slot s i (record { 0 = b })))))))
+    (λ b h. at-zeros (s .blocks) b ∙ sym (mask-none (s .processors) _ (λ i. rw at-zeros))))
 
 -- ---- a run with masks
 
 -- tables with true masks are let through exactly if the tables are
 pub masked-refusal : (s : Setup) (t : Tables) (a : Account) (n : ℕ) (vs : List ℕ) → maskedRefusal s (withMasks s t) a n vs ≡ runRefusal s t a n vs
 unfolding maskedRefusal runRefusal sizedMasked soundMasked
-masked-refusal s t a n vs = rw (eq-eqb _ _ (masks-length s t), masks-true s t) (simp and-always)
+masked-refusal s t a n vs = simp (eq-eqb _ _ (masks-length s t), masks-true s t, and-always)
 
 -- what is known where they are let through
 pub record MaskedChecked (s : Setup) (x : Masked) (a : Account) (n : ℕ) (vs : List ℕ) : Type 0 where
@@ -104,17 +112,6 @@ masked-checked s x a n vs e =
       tables = record { setup = c .setup; sizes = k .0; values = eqb-true _ _ (l .1); tables = d .0; account = c .account };
       masks = true-masks s x (eqb-true _ _ (k .1)) (d .1);
     }
-
--- an outcome of the run without masks, with the true masks of the tables that it leaves
-abbrev pub maskedOutcome : Setup → Outcome Tables → Outcome Masked
-maskedOutcome s o = record { answer = o .answer; tables = withMasks s (o .tables); account = o .account; values = o .values }
-
-abbrev pub maskedState : Setup → State Tables → State Masked
-maskedState s w = record { tables = withMasks s (w .tables); account = w .account }
-
-abbrev pub maskedOutcomes : Setup → List (Outcome Tables) → List (Outcome Masked)
-maskedOutcomes s [] = []
-maskedOutcomes s (o ∷ os) = maskedOutcome s o ∷ maskedOutcomes s os
 
 module _ (s : Setup) where
   masked-run-from : (t : Tables) (a : Account) (qs : List Request) (vs : List ℕ)
@@ -157,3 +154,14 @@ module _ (s : Setup) where
   masked-outcomes w (r ∷ rs) =
       ap (λ (o : Outcome Masked). o ∷ outcomes (maskedEngine s) (leftBy o) rs) (masked-run (w .tables) (w .account) (r .requests) (r .values))
       ∙ ap (λ l. maskedOutcome s (outcomeOf (engine s) w r) ∷ l) (masked-outcomes (leftBy (outcomeOf (engine s) w r)) rs)
+
+  -- from fresh tables and masks
+  pub fresh-run : (a : Account) (qs : List Request) (vs : List ℕ) → run (maskedEngine s) (freshMasked s) a qs vs ≡ maskedOutcome s (run (engine s) (fresh s) a qs vs)
+  fresh-run a qs vs = rw (fresh-masked s) (masked-run (fresh s) a qs vs)
+
+  pub fresh-runs : (a : Account) (rs : List (Run Request)) → runs (maskedEngine s) (maskedOpening s a) rs ≡ maskedState s (runs (engine s) (opening s a) rs)
+  fresh-runs a rs = rw (fresh-masked s) (masked-runs (opening s a) rs)
+
+  pub fresh-outcomes : (a : Account) (rs : List (Run Request))
+      → outcomes (maskedEngine s) (maskedOpening s a) rs ≡ maskedOutcomes s (outcomes (engine s) (opening s a) rs)
+  fresh-outcomes a rs = rw (fresh-masked s) (masked-outcomes (opening s a) rs)

@@ -19,36 +19,27 @@ variable-named s v Supply h = h
 variable-named s v (Store x) h = h
 
 serve-clear-requires : tie.Need-serve-clear-requires
-serve-clear-requires c κs =
-    let start = c .before .before .before .before .before .before .before .before .before .before .before .before in
-    (start .pre .0, (start .pre .1 .0 .processor, start .pre .1 .1))
+serve-clear-requires c κs = let p = c .before .before .before .before .before .before .before .before .before .before .before .before .before .before .pre in (p .0, (p .1 .0 .processor, p .1 .1))
 
 returns : tie.Need-returns
 unfolding value bill served
-returns c =
-    let serve-clear′ = c .before .before .before .before .before .before .before .before .before .before in
-    rw (serve-clear′ .before .before .before .before .before .before .enum-told .given .1) (serve-clear′ .serve-clear .ensures)
+returns c = rw (c .before .before .before .before .before .before .before .before .before .before .before .before .before .before .before .before .before .before .before .enum-told .given .1) (c .before .before .before .before .before .before .before .before .before .before .before .before .serve-clear .ensures)
 
 serve-access-requires : tie.Need-serve-access-requires
 serve-access-requires c κs =
-    let match′ = c .before .before .before .before .before in
-    let start = match′ .before .before .before .before .before .before in
-    let a = start .args in
-    let access = match′ .match .access in
-    let e : a .request .operation ≡ operationOf access = ⊎-elim (λ w. rw (w .3) (w .1 .given .1)) (λ w. rw (w .3) (w .1 .given .1)) (match′ .match .came) in
-    let named : Named (a .setup) (operationOf access) = rw e at (start .pre .1 .0 .operation) in
-    (start .pre .0, (start .pre .1 .0 .processor, (variable-named (a .setup) (access .variable) (access .effect) named, start .pre .1 .1)))
+    let a = c .before .before .before .before .before .before .before .before .before .before .before .before .before .args in
+    let p = c .before .before .before .before .before .before .before .before .before .before .before .before .before .pre in
+    let access = c .before .before .before .before .before .before .match .access in
+    let e : a .request .operation ≡ operationOf access = ⊎-elim (λ w. rw (w .3) (w .1 .given .1)) (λ w. rw (w .3) (w .1 .given .1)) (c .before .before .before .before .before .before .match .came) in
+    let named : Named (a .setup) (operationOf access) = rw e at (p .1 .0 .operation) in
+    (p .0, (p .1 .0 .processor, (variable-named (a .setup) (access .variable) (access .effect) named, p .1 .1)))
 
 returns-2 : tie.Need-returns-2
 unfolding value bill served
 returns-2 c =
-    let serve-access′ = c .before .before .before .before .before .before .before .before .before .before in
-    let match′ = serve-access′ .before .before .before .before .before .before in
-    let start = match′ .before .before .before .before .before .before in
-    let a = start .args in
-    let e : a .request .operation ≡ operationOf (match′ .match .access) =
-    ⊎-elim (λ w. rw (w .3) (w .1 .given .1)) (λ w. rw (w .3) (w .1 .given .1)) (match′ .match .came) in
-    rw e (serve-access′ .serve-access .ensures)
+    let e : c .before .before .before .before .before .before .before .before .before .before .before .before .before .before .before .before .before .before .before .before .before .before .before .before .before .before .args .request .operation ≡ operationOf (c .before .before .before .before .before .before .before .before .before .before .before .before .before .before .before .before .before .before .before .match .access) =
+    ⊎-elim (λ w. rw (w .3) (w .1 .given .1)) (λ w. rw (w .3) (w .1 .given .1)) (c .before .before .before .before .before .before .before .before .before .before .before .before .before .before .before .before .before .before .before .match .came) in
+    rw e (c .before .before .before .before .before .before .before .before .before .before .before .before .serve-access .ensures)
 
 pub serve-spec : {M : Type 1} → statement M
 serve-spec =
@@ -63,8 +54,10 @@ serve-spec =
     (λ c. search needs)
     (λ c. search needs)
     (λ c. search needs)
+    (λ c. search needs)
     returns
     serve-access-requires
+    (λ c. search needs)
     (λ c. search needs)
     (λ c. search needs)
     (λ c. search needs)

@@ -7,7 +7,7 @@ use Rattle.protocol.specs.Tables.{Tables, tables}
 use Rattle.protocol.specs.Masks.{masksOf}
 use Rattle.protocol.specs.Rules.{emptied, evicted}
 use Rattle.engine_masks.specs.Copies.{lostAt}
-use Rattle.protocol.proofs.Masks.{masks-length}
+use Rattle.protocol.proofs.Masks.{length-masks}
 use Rattle.engine_masks.proofs.Rules.{masks-evicted}
 use Rattle.engine_evictions.proofs.evict.Statement.{statement}
 use Rattle.engine_evictions.proofs.evict.Tie as tie
@@ -17,7 +17,7 @@ lose-at-requires c κs =
     let a = c .before .before .before .before .before .before .before .before .before .args in
     let p = c .before .before .before .before .before .before .before .before .before .pre in
     let t = tables (now (a .blocks)) (now (a .counters)) (now (a .marks)) (now (a .words)) (now (a .memory)) in
-    (omega (arith, p .0 .few-processors, p .1 .0 .0), (omega (arith, p .1 .1 .1 .1 .0 .blocks), omega (arith, p .1 .1 .1 .1 .0 .counters), rw (p .1 .1 .1 .1 .1, masks-length (a .setup) t) (p .1 .1 .0)))
+    (omega (arith, p .0 .few-processors, p .1 .0 .0), (omega (arith, p .1 .1 .1 .1 .0 .blocks), omega (arith, p .1 .1 .1 .1 .0 .counters), rw (length-masks (a .setup) t (p .1 .1 .1 .1 .1)) (p .1 .1 .0)))
 
 empty-line-requires : tie.Need-empty-line-requires
 empty-line-requires c κs =

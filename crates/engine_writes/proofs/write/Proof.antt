@@ -5,12 +5,9 @@ use Prim.Native.Nat.{ℕ, _≤_, _<_}
 use mathlib.Core.Path.{_≡_, refl, sym, ap, _∙_}
 use mathlib.Core.Logic.{_≢_}
 use mathlib.Core.Bool.{true, false}
-use mathlib.Core.List.{List}
 use native.Mathlib.Omega.{arith}
 use borrow.Author.Tests.{lt-ltb, le-ltb, eqb-true, eqb-false, not-true, not-false}
-use lib.ListN.{length}
 use denote.Ref.{now}
-use Rattle.protocol_types.specs.Lists.{at}
 use Rattle.protocol_types.specs.Board.{Fits, slots, slot, fetchPrice}
 use Rattle.protocol.specs.Tables.{Tables, tables, Sized, counter, block, holds, sharing}
 use Rattle.protocol.specs.Masks.{holders, masksOf}
@@ -22,7 +19,7 @@ use Rattle.protocol_types.proofs.Laws.{at-set}
 use Rattle.bits.proofs.Bits.{mask-below}
 use Rattle.protocol.proofs.Holding.{holder-slot, payer-found, payer-sharing}
 use Rattle.protocol.proofs.Lengths.{sized-broadcast}
-use Rattle.protocol.proofs.Masks.{masks-length, masks-at}
+use Rattle.protocol.proofs.Masks.{mask-read, length-masks}
 use Rattle.engine_masks.proofs.Rules.{masks-recounted, masks-charged, masks-charged-empty}
 use Rattle.engine_writes.proofs.write.Statement.{statement}
 use Rattle.engine_writes.proofs.write.Tie as tie
@@ -68,16 +65,12 @@ module _ (s : Setup) (t : Tables) (i : ℕ) (b : Block) (j : ℕ) (found : j ≡
   pays : j < s .processors → holds s t j b ≡ true
   pays h = rw found (payer-found s t i b (shared h) .passes)
 
--- the block's mask, as it is read
-mask-read : (s : Setup) (t : Tables) (h : List ℕ) (b : Block) → h ≡ masksOf s t → b .0 < s .blocks → at h (b .0) ≡ holders s t b
-mask-read s t h b e hb = rw e (masks-at s t (b .0) hb)
-
 slice-read-mask : tie.Need-slice-read-mask
 slice-read-mask c =
     let a = c .before .before .before .before .before .before .before .before .before .args in
     let p = c .before .before .before .before .before .before .before .before .before .pre in
     let t = tables (now (a .blocks)) (now (a .counters)) (now (a .marks)) (now (a .words)) (now (a .memory)) in
-    omega (arith, p .1 .1 .0, ap length (p .1 .1 .1 .1 .1 .1), masks-length (a .setup) t)
+    omega (arith, p .1 .1 .0, length-masks (a .setup) t (p .1 .1 .1 .1 .1 .1))
 
 payer-requires : tie.Need-payer-requires
 unfolding holders
@@ -85,7 +78,7 @@ payer-requires c κs =
     let a = c .before .before .before .before .before .before .before .before .before .before .args in
     let p = c .before .before .before .before .before .before .before .before .before .before .pre in
     let t = tables (now (a .blocks)) (now (a .counters)) (now (a .marks)) (now (a .words)) (now (a .memory)) in
-    (p .0, (p .1 .0, (rw (mask-read (a .setup) t (now (a .masks)) (a .block) (p .1 .1 .1 .1 .1 .1) (p .1 .1 .0)) (mask-below (a .setup .processors) _), p .1 .1 .1 .1 .1 .0 .counters)))
+    (p .0, (p .1 .0, (rw (mask-read (a .setup) t (a .block) (p .1 .1 .1 .1 .1 .1) (p .1 .1 .0)) (mask-below (a .setup .processors) _), p .1 .1 .1 .1 .1 .0 .counters)))
 
 returns : tie.Need-returns
 unfolding written updateCycles
@@ -94,7 +87,7 @@ returns c =
     let p = c .before .before .before .before .before .before .before .before .before .before .before .before .before .before .before .before .before .before .before .before .before .before .before .pre in
     let s = a .setup in
     let t = tables (now (a .blocks)) (now (a .counters)) (now (a .marks)) (now (a .words)) (now (a .memory)) in
-    let mask = mask-read s t (now (a .masks)) (a .block) (p .1 .1 .1 .1 .1 .1) (p .1 .1 .0) in
+    let mask = mask-read s t (a .block) (p .1 .1 .1 .1 .1 .1) (p .1 .1 .0) in
     let found = c .before .before .before .before .before .before .before .before .before .before .before .before .payer .ensures (now (a .blocks)) (now (a .marks)) (now (a .words)) (now (a .memory)) mask in
     let e = alone s t (a .processor) (a .block) (c .before .before .before .before .before .before .before .before .before .before .before .before .payer .result) found (c .before .before .before .before .before .before .before .before .before .before .if1 .taken) in
     let w = c .before .before .before .before .before .before .write-alone .ensures (now (a .blocks)) (now (a .memory)) in (
@@ -117,7 +110,7 @@ write-shared-requires c κs =
     let p = c .before .before .before .before .before .before .before .before .before .before .before .before .before .before .before .before .before .before .before .pre in
     let s = a .setup in
     let t = tables (now (a .blocks)) (now (a .counters)) (now (a .marks)) (now (a .words)) (now (a .memory)) in
-    let mask = mask-read s t (now (a .masks)) (a .block) (p .1 .1 .1 .1 .1 .1) (p .1 .1 .0) in
+    let mask = mask-read s t (a .block) (p .1 .1 .1 .1 .1 .1) (p .1 .1 .0) in
     let found = c .before .before .before .before .before .before .before .before .payer .ensures (now (a .blocks)) (now (a .marks)) (now (a .words)) (now (a .memory)) mask in
     let held = holder-slot s t (c .before .before .before .before .before .before .before .before .payer .result) (a .block) (pays s t (a .processor) (a .block) (c .before .before .before .before .before .before .before .before .payer .result) found (c .before .before .before .before .before .before .if1 .left)) in (
       p .0,
@@ -137,7 +130,7 @@ returns-2 c =
     let p = c .before .before .before .before .before .before .before .before .before .before .before .before .before .before .before .before .before .before .before .before .before .before .before .before .before .before .before .before .before .before .before .pre in
     let s = a .setup in
     let t = tables (now (a .blocks)) (now (a .counters)) (now (a .marks)) (now (a .words)) (now (a .memory)) in
-    let mask = mask-read s t (now (a .masks)) (a .block) (p .1 .1 .1 .1 .1 .1) (p .1 .1 .0) in
+    let mask = mask-read s t (a .block) (p .1 .1 .1 .1 .1 .1) (p .1 .1 .0) in
     let found = c .before .before .before .before .before .before .before .before .before .before .before .before .before .before .before .before .before .before .before .before .payer .ensures (now (a .blocks)) (now (a .marks)) (now (a .words)) (now (a .memory)) mask in
     let e = shared s t (a .processor) (a .block) (c .before .before .before .before .before .before .before .before .before .before .before .before .before .before .before .before .before .before .before .before .payer .result) found (c .before .before .before .before .before .before .before .before .before .before .before .before .before .before .before .before .before .before .if1 .left) in
     let w = c .before .before .before .before .before .before .before .before .before .before .before .write-shared .ensures .1 in
@@ -158,7 +151,7 @@ lose-requires c κs =
     let a = c .before .before .before .before .before .before .before .before .before .before .before .before .before .before .before .before .before .before .before .before .before .before .before .before .before .before .before .before .before .before .before .before .args in
     let p = c .before .before .before .before .before .before .before .before .before .before .before .before .before .before .before .before .before .before .before .before .before .before .before .before .before .before .before .before .before .before .before .before .pre in
     let t = tables (now (a .blocks)) (now (a .counters)) (now (a .marks)) (now (a .words)) (now (a .memory)) in
-    (omega (arith, c .before .before .before .before .before .before .before .before .before .before .before .before .before .before .before .before .before .before .before .if1 .left, p .0 .few-processors), omega (arith, p .1 .1 .0, ap length (p .1 .1 .1 .1 .1 .1), masks-length (a .setup) t))
+    (omega (arith, c .before .before .before .before .before .before .before .before .before .before .before .before .before .before .before .before .before .before .before .if1 .left, p .0 .few-processors), omega (arith, p .1 .1 .0, length-masks (a .setup) t (p .1 .1 .1 .1 .1 .1)))
 
 returns-3 : tie.Need-returns-3
 unfolding written updateCycles
@@ -167,7 +160,7 @@ returns-3 c =
     let p = c .before .before .before .before .before .before .before .before .before .before .before .before .before .before .before .before .before .before .before .before .before .before .before .before .before .before .before .before .before .before .before .before .before .before .before .pre in
     let s = a .setup in
     let t = tables (now (a .blocks)) (now (a .counters)) (now (a .marks)) (now (a .words)) (now (a .memory)) in
-    let mask = mask-read s t (now (a .masks)) (a .block) (p .1 .1 .1 .1 .1 .1) (p .1 .1 .0) in
+    let mask = mask-read s t (a .block) (p .1 .1 .1 .1 .1 .1) (p .1 .1 .0) in
     let found = c .before .before .before .before .before .before .before .before .before .before .before .before .before .before .before .before .before .before .before .before .before .before .before .before .payer .ensures (now (a .blocks)) (now (a .marks)) (now (a .words)) (now (a .memory)) mask in
     let e = shared s t (a .processor) (a .block) (c .before .before .before .before .before .before .before .before .before .before .before .before .before .before .before .before .before .before .before .before .before .before .before .before .payer .result) found (c .before .before .before .before .before .before .before .before .before .before .before .before .before .before .before .before .before .before .before .before .before .before .if1 .left) in
     let w = c .before .before .before .before .before .before .before .before .before .before .before .before .before .before .before .write-shared .ensures .1 in
