@@ -9,8 +9,8 @@
  * What a host owes at each call:
  * - Each pointer is valid for its length, not NULL also at length 0, and aligned for its element type. A list of
  *   requests or entries is an array of uint32_t.
- * - Nothing that the callee may write (tables, values, account, a list to be generated, out-parameters) overlaps
- *   anything else that it is passed.
+ * - Nothing that the callee may write (tables, masks, values, account, a list to be generated, out-parameters)
+ *   overlaps anything else that it is passed.
  * - Threads: there is no global state, so calls on different buffers may go on at once. Calls that share a buffer may
  *   not, unless all of them only read it.
  * Whatever the numbers are, the call is safe and ends.
@@ -32,12 +32,12 @@ extern "C" {
 /* ---- Numbers ---- */
 
 /* The version of what the archive exports and of what it means. */
-#define CUZKELOR_VERSION 5
+#define CUZKELOR_VERSION 6
 
 /* Why something is refused: name, number, what is refused, the condition in words.
  *
- * CALL: the call as a whole. No table, no value, no list and no account that a run adds to has changed; places and
- * taken are 0.
+ * CALL: the call as a whole. No table, no mask, no value, no list and no account that a run adds to has changed; places
+ * and taken are 0.
  * PLACE: a request, an entry or a line, or the end of a schedule. The answer says which one, and each function what it
  * leaves then. */
 #define CUZKELOR_REFUSALS(X)                                                                                           \
@@ -114,11 +114,13 @@ enum cuzkelor_trace {
 };
 
 /* Lengths as constants, for arrays. Block numbers, counters and marks (of a rival: block numbers, held and marks) have
- * one number for each line of each cache, words a block for each, and memory one number for each variable. */
+ * one number for each line of each cache, words a block for each, and memory one number for each variable. Masks have
+ * one byte for each block. */
 #define CUZKELOR_SLOT_COUNT(processors, lines) ((size_t)(processors) * (size_t)(lines))
 #define CUZKELOR_WORD_COUNT(processors, lines, block_words)                                                            \
     (CUZKELOR_SLOT_COUNT(processors, lines) * (size_t)(block_words))
 #define CUZKELOR_VARIABLE_COUNT(block_words, block_count) ((size_t)(block_words) * (size_t)(block_count))
+#define CUZKELOR_MASK_COUNT(block_count) ((size_t)(block_count))
 
 /* ---- What the archive exports ----
  *
@@ -134,16 +136,23 @@ enum cuzkelor_trace {
  *
  * Tables are sound, as start and run leave them, if every counter is at most fetch_price; the block number, mark and
  * words of an empty line are 0; a held block is below block_count and in its line; marks are 0 or 1; a marked block has
- * counter fetch_price and one holder; an unmarked copy equals memory. */
+ * counter fetch_price and one holder; an unmarked copy equals memory; and every mask is true.
+ *
+ * The masks say who holds each block, so that a run need not ask every cache: bit i of byte b, 1 << i, is set exactly
+ * if processor i holds block b, and no bit at or above processors is set. They are lent to start and run alone, which
+ * leave them true. A host keeps them with its tables and need not read them. Tables that versions 1 to 5 or a trace
+ * left have none: before a run, set bit i of byte b exactly if cuzkelor_look_length of processor i and block b is not
+ * 0, as cuzkelor_fill_masks does. */
 
 /* The version of this archive: CUZKELOR_VERSION of the header that belongs to it. */
 uint32_t cuzkelor_version(void);
 
-/* Fills all tables with 0. Checks 1, 10, 2; a refusal changes no table. */
+/* Fills all tables and masks with 0. Checks 1, 10, 2; a refusal changes none of them. */
 uint32_t cuzkelor_start(uint32_t processors, uint32_t lines, uint32_t block_words, uint32_t block_count,
                         uint32_t fetch_price, uint32_t write_back_price, uint32_t *blocks, size_t blocks_length,
                         uint32_t *counters, size_t counters_length, uint32_t *marks, size_t marks_length,
-                        uint32_t *words, size_t words_length, uint32_t *memory, size_t memory_length);
+                        uint32_t *words, size_t words_length, uint32_t *memory, size_t memory_length, uint8_t *masks,
+                        size_t masks_length);
 
 /* Where in words the copy of a block in a processor's cache begins. 0 if 1, 10, 2 (of these three tables), 3 or 8 would
  * apply, or if the line's counter is 0 or it names another block; but 0 is also where the first copy begins, so ask for
@@ -171,23 +180,24 @@ size_t cuzkelor_look_length(uint32_t processors, uint32_t lines, uint32_t block_
  * back and every line becomes empty. No other cache changes.
  *
  * In versions 1 to 3 a write lowered the lowest other holder's counter, whatever the counters; in versions 1 to 4
- * operation 2 read. Tables and accounts that they left may be lent on.
+ * operation 2 read; in versions 1 to 5 there were no masks. Tables and accounts that they left may be lent on, with
+ * masks made for them.
  *
  * Checks 1, 10, 2, 20, 21, then for each request 3, 4 (not of a clear), 22. 2 also meets a list that is no whole number
- * of requests, and values of another length than the list. 21: fetch cycles over fetch_price x requests, write-back
- * cycles over write_back_price x lines x requests, since a clear can write back every line, or update cycles over
- * requests; no product overflows.
+ * of requests, and values of another length than the list. 20 also meets a false mask. 21: fetch cycles over
+ * fetch_price x requests, write-back cycles over write_back_price x lines x requests, since a clear can write back
+ * every line, or update cycles over requests; no product overflows.
  *
  * No refusal: taken is the number of requests, place is 0. By 1, 10, 2, 20 or 21: taken and place are 0, nothing lent
- * changes. By 3, 4 or 22: taken and place are both the refused request's place; tables and account are as the requests
- * before it left them, and values from that place on are untouched. */
+ * changes. By 3, 4 or 22: taken and place are both the refused request's place; tables, masks and account are as the
+ * requests before it left them, and values from that place on are untouched. */
 uint32_t cuzkelor_run(uint32_t processors, uint32_t lines, uint32_t block_words, uint32_t block_count,
                       uint32_t fetch_price, uint32_t write_back_price, uint32_t *blocks, size_t blocks_length,
                       uint32_t *counters, size_t counters_length, uint32_t *marks, size_t marks_length,
-                      uint32_t *words, size_t words_length, uint32_t *memory, size_t memory_length,
-                      uint32_t *account_requests, uint32_t *account_fetch, uint32_t *account_write_back,
-                      uint32_t *account_update, const uint32_t *requests, size_t requests_length, uint32_t *values,
-                      size_t values_length, size_t *taken, size_t *place);
+                      uint32_t *words, size_t words_length, uint32_t *memory, size_t memory_length, uint8_t *masks,
+                      size_t masks_length, uint32_t *account_requests, uint32_t *account_fetch,
+                      uint32_t *account_write_back, uint32_t *account_update, const uint32_t *requests,
+                      size_t requests_length, uint32_t *values, size_t values_length, size_t *taken, size_t *place);
 
 /* Plays a rival's schedule for a list of requests, from empty caches; what the tables hold before plays no part. An
  * entry is three numbers: kind, processor, block; of a completion the last two play no part.
@@ -261,17 +271,25 @@ typedef struct {
     uint32_t number;
 } cuzkelor_block;
 
-/* Lent numbers. */
+/* Lent numbers and bytes. */
 typedef struct {
     uint32_t *at;
     size_t length;
 } cuzkelor_numbers;
 
-/* An array, not a pointer, as the initializer of lent numbers: cuzkelor_numbers words = CUZKELOR_LENT(array); */
+typedef struct {
+    uint8_t *at;
+    size_t length;
+} cuzkelor_bytes;
+
+/* An array, not a pointer, as the initializer of either: cuzkelor_numbers words = CUZKELOR_LENT(array); */
 #define CUZKELOR_LENT(array) {(array), sizeof(array) / sizeof((array)[0])}
 
+/* Only cuzkelor_start_tables, cuzkelor_run_requests and cuzkelor_fill_masks use masks. For looks and traces it may be
+ * {NULL, 0}. */
 typedef struct {
     cuzkelor_numbers blocks, counters, marks, words, memory;
+    cuzkelor_bytes masks;
 } cuzkelor_tables;
 
 typedef struct {
@@ -375,7 +393,8 @@ static inline cuzkelor_setup cuzkelor_trace_setup(void) {
     return setup;
 }
 
-/* The lengths that a setup in range requires: of block numbers, counters, marks and held; of words; of memory. */
+/* The lengths that a setup in range requires: of block numbers, counters, marks and held; of words; of memory; of
+ * masks. */
 static inline size_t cuzkelor_slot_count(cuzkelor_setup setup) {
     return CUZKELOR_SLOT_COUNT(setup.processors, setup.lines);
 }
@@ -387,6 +406,8 @@ static inline size_t cuzkelor_word_count(cuzkelor_setup setup) {
 static inline size_t cuzkelor_variable_count(cuzkelor_setup setup) {
     return CUZKELOR_VARIABLE_COUNT(setup.block_words, setup.block_count);
 }
+
+static inline size_t cuzkelor_mask_count(cuzkelor_setup setup) { return CUZKELOR_MASK_COUNT(setup.block_count); }
 
 /* Whether 1 does not meet a setup. */
 static inline int cuzkelor_sizes_in_range(cuzkelor_setup setup) {
@@ -470,6 +491,7 @@ static inline cuzkelor_entry cuzkelor_complete_by_broadcast(void) {
 #define CUZKELOR_TABLES(tables)                                                                                        \
     CUZKELOR_NUMBERS((tables)->blocks), CUZKELOR_NUMBERS((tables)->counters), CUZKELOR_NUMBERS((tables)->marks),       \
         CUZKELOR_NUMBERS((tables)->words), CUZKELOR_NUMBERS((tables)->memory)
+#define CUZKELOR_MASKS(tables) (tables)->masks.at, (tables)->masks.length
 #define CUZKELOR_ACCOUNT(account)                                                                                      \
     &(account)->requests, &(account)->fetch, &(account)->write_back, &(account)->update
 #define CUZKELOR_REQUESTS(requests, count) (const uint32_t *)(const void *)(requests), CUZKELOR_REQUEST_NUMBERS *(count)
@@ -477,7 +499,7 @@ static inline cuzkelor_entry cuzkelor_complete_by_broadcast(void) {
 #define CUZKELOR_ENTRIES(entries, count) (const uint32_t *)(const void *)(entries), CUZKELOR_ENTRY_NUMBERS *(count)
 
 static inline uint32_t cuzkelor_start_tables(cuzkelor_setup setup, const cuzkelor_tables *tables) {
-    return cuzkelor_start(CUZKELOR_SETUP(setup), CUZKELOR_TABLES(tables));
+    return cuzkelor_start(CUZKELOR_SETUP(setup), CUZKELOR_TABLES(tables), CUZKELOR_MASKS(tables));
 }
 
 static inline cuzkelor_part cuzkelor_look(cuzkelor_setup setup, const cuzkelor_tables *tables, uint32_t processor,
@@ -492,14 +514,27 @@ static inline cuzkelor_part cuzkelor_look(cuzkelor_setup setup, const cuzkelor_t
     return part;
 }
 
+/* Makes the masks true, whatever they are: for tables that an earlier version or a trace left, or that the host itself
+ * changed. It writes every byte of masks and nothing else. */
+static inline void cuzkelor_fill_masks(cuzkelor_setup setup, const cuzkelor_tables *tables) {
+    for (size_t block = 0; block < tables->masks.length; block++) {
+        uint32_t mask = 0;
+        for (uint32_t processor = 0; processor < CUZKELOR_MOST_PROCESSORS; processor++) {
+            cuzkelor_part part = cuzkelor_look(setup, tables, processor, cuzkelor_make_block((uint32_t)block));
+            if (part.length != 0) mask |= (uint32_t)1 << processor;
+        }
+        tables->masks.at[block] = (uint8_t)mask;
+    }
+}
+
 /* count requests, and value_count words for their values: 2 wants as many. */
 static inline cuzkelor_run_answer cuzkelor_run_requests(cuzkelor_setup setup, const cuzkelor_tables *tables,
                                                         cuzkelor_account *account, const cuzkelor_request *requests,
                                                         size_t count, uint32_t *values, size_t value_count) {
     cuzkelor_run_answer answer;
-    answer.refusal = cuzkelor_run(CUZKELOR_SETUP(setup), CUZKELOR_TABLES(tables), CUZKELOR_ACCOUNT(account),
-                                  CUZKELOR_REQUESTS(requests, count), values, value_count, &answer.taken,
-                                  &answer.place);
+    answer.refusal = cuzkelor_run(CUZKELOR_SETUP(setup), CUZKELOR_TABLES(tables), CUZKELOR_MASKS(tables),
+                                  CUZKELOR_ACCOUNT(account), CUZKELOR_REQUESTS(requests, count), values, value_count,
+                                  &answer.taken, &answer.place);
     return answer;
 }
 
@@ -521,7 +556,8 @@ static inline uint32_t cuzkelor_generate_requests(cuzkelor_setup setup, uint32_t
     return cuzkelor_generate(CUZKELOR_SETUP(setup), seed, CUZKELOR_LENT_REQUESTS(requests, count));
 }
 
-/* Tables of the trace's setup. The account is that of the lines before a refused one. */
+/* Tables of the trace's setup, whose masks stay as they are: before a run goes on from the tables, cuzkelor_fill_masks
+ * makes them true. The account is that of the lines before a refused one. */
 static inline cuzkelor_report cuzkelor_count_din(const cuzkelor_tables *tables, const char *bytes, size_t length) {
     cuzkelor_report report;
     report.refusal = cuzkelor_count_trace((const uint8_t *)bytes, length, CUZKELOR_TABLES(tables),
@@ -532,6 +568,7 @@ static inline cuzkelor_report cuzkelor_count_din(const cuzkelor_tables *tables, 
 #undef CUZKELOR_SETUP
 #undef CUZKELOR_NUMBERS
 #undef CUZKELOR_TABLES
+#undef CUZKELOR_MASKS
 #undef CUZKELOR_ACCOUNT
 #undef CUZKELOR_REQUESTS
 #undef CUZKELOR_LENT_REQUESTS

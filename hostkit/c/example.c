@@ -12,15 +12,16 @@
 
 enum { PROCESSORS = 4, LINES = 8, BLOCK_WORDS = 4, BLOCK_COUNT = 64, FETCH_PRICE = 5, WRITE_BACK_PRICE = 4 };
 
-/* Nothing is allocated: the tables are arrays of the lengths that the setup requires. */
+/* Nothing is allocated: the tables and masks are arrays of the lengths that the setup requires. */
 static const cuzkelor_setup setup = {PROCESSORS, LINES, BLOCK_WORDS, BLOCK_COUNT, FETCH_PRICE, WRITE_BACK_PRICE};
 static uint32_t blocks[CUZKELOR_SLOT_COUNT(PROCESSORS, LINES)];
 static uint32_t counters[CUZKELOR_SLOT_COUNT(PROCESSORS, LINES)];
 static uint32_t marks[CUZKELOR_SLOT_COUNT(PROCESSORS, LINES)];
 static uint32_t words[CUZKELOR_WORD_COUNT(PROCESSORS, LINES, BLOCK_WORDS)];
 static uint32_t memory[CUZKELOR_VARIABLE_COUNT(BLOCK_WORDS, BLOCK_COUNT)];
+static uint8_t masks[CUZKELOR_MASK_COUNT(BLOCK_COUNT)];
 static const cuzkelor_tables tables = {CUZKELOR_LENT(blocks), CUZKELOR_LENT(counters), CUZKELOR_LENT(marks),
-                                       CUZKELOR_LENT(words), CUZKELOR_LENT(memory)};
+                                       CUZKELOR_LENT(words),  CUZKELOR_LENT(memory),   CUZKELOR_LENT(masks)};
 
 static void report(uint32_t refusal, size_t place) {
     if (refusal == CUZKELOR_NO_REFUSAL) return;

@@ -1,5 +1,6 @@
 /* Plays the document's sessions, also at other prices, clears, its printed trace, a look, schedules and generated lists
- * through the archive from C or C++, and tests the header's numbers, words, lengths and ranges. */
+ * through the archive from C or C++, with the masks of holders after each request, and tests the header's numbers,
+ * words, lengths and ranges. */
 #include "../cuzkelor.h"
 #include <stdbool.h>
 #include <stdio.h>
@@ -17,12 +18,13 @@ static const cuzkelor_setup NINE_PROCESSORS = {9, L, P, M, P, P};
 static const cuzkelor_setup DEAR_WRITE_BACK = {N, L, P, M, P, P + 1};
 static const cuzkelor_setup NINE_AND_DEAR = {9, L, P, M, P, P + 1};
 
-/* Tables and account of one host, with room for any setup up to SETUP's, and for ONE_CACHE. */
+/* Tables, masks and account of one host, with room for any setup up to SETUP's, and for ONE_CACHE. */
 struct host {
     cuzkelor_setup setup;
     uint32_t blocks[CUZKELOR_MOST_LINES], counters[CUZKELOR_MOST_LINES], marks[CUZKELOR_MOST_LINES];
     uint32_t words[CUZKELOR_WORD_COUNT(N, L, P)];
     uint32_t memory[CUZKELOR_VARIABLE_COUNT(P, M)];
+    uint8_t masks[CUZKELOR_MASK_COUNT(M)];
     cuzkelor_account account;
 };
 
@@ -43,12 +45,33 @@ static cuzkelor_numbers lent(uint32_t *at, size_t length) {
     return numbers;
 }
 
+static cuzkelor_bytes lent_bytes(uint8_t *at, size_t length) {
+    cuzkelor_bytes bytes = {at, length};
+    return bytes;
+}
+
 static cuzkelor_tables tables_of(struct host *h) {
     size_t slots = cuzkelor_slot_count(h->setup);
-    cuzkelor_tables tables = {lent(h->blocks, slots), lent(h->counters, slots), lent(h->marks, slots),
+    cuzkelor_tables tables = {lent(h->blocks, slots),
+                              lent(h->counters, slots),
+                              lent(h->marks, slots),
                               lent(h->words, cuzkelor_word_count(h->setup)),
-                              lent(h->memory, cuzkelor_variable_count(h->setup))};
+                              lent(h->memory, cuzkelor_variable_count(h->setup)),
+                              lent_bytes(h->masks, cuzkelor_mask_count(h->setup))};
     return tables;
+}
+
+/* Whether each mask has the bits of the block's holders, and no other one. */
+static bool masks_true(const struct host *h) {
+    for (uint32_t block = 0; block < h->setup.block_count; block++) {
+        uint32_t mask = 0;
+        for (uint32_t i = 0; i < h->setup.processors; i++) {
+            uint32_t slot = i * h->setup.lines + block % h->setup.lines;
+            if (h->counters[slot] > 0 && h->blocks[slot] == block) mask += (uint32_t)1 << i;
+        }
+        if (h->masks[block] != mask) return false;
+    }
+    return true;
 }
 
 static struct host fresh(cuzkelor_setup setup) {
@@ -58,6 +81,7 @@ static struct host fresh(cuzkelor_setup setup) {
     memset(&h.account, 0, sizeof h.account);
     cuzkelor_tables tables = tables_of(&h);
     check(cuzkelor_start_tables(setup, &tables) == CUZKELOR_NO_REFUSAL, "starting");
+    check(masks_true(&h), "the masks of started tables");
     return h;
 }
 
@@ -77,6 +101,7 @@ static void one(struct host *h, cuzkelor_request request, uint32_t value, struct
     check(h->account.fetch == before.fetch + cycles.fetch, "fetch cycles");
     check(h->account.write_back == before.write_back + cycles.write_back, "write-back cycles");
     check(h->account.update == before.update + cycles.update, "update cycles");
+    check(masks_true(h), "the masks");
 }
 
 static void reads(struct host *h, uint32_t i, uint32_t variable, uint32_t value, struct cycles cycles) {
@@ -196,6 +221,7 @@ static void weakest_pays(void) {
 static void pays(const uint32_t before[N], uint32_t i, const uint32_t after[N]) {
     struct host h = fresh(SETUP);
     for (uint32_t j = 0; j < N; j++) h.counters[j * L] = before[j];
+    h.masks[0] = (1 << N) - 1;
     writes(&h, i, 0, 5, UPDATE);
     for (uint32_t j = 0; j < N; j++) check(line_0(&h, j, after[j], 0), "the payer on other tables");
 }
@@ -280,6 +306,8 @@ static void clear_of_three_blocks(void) {
     memset(after.words + L * P, 0, L * P * sizeof after.words[0]);
     after.memory[0] = 7;
     after.memory[13] = 8;
+    after.masks[0] = after.masks[3] = 0;
+    after.masks[7] = 1 << 2;
     clears(&h, 1, 2);
     after.account = h.account;
     check(memcmp(&h, &after, sizeof h) == 0, "1's lines are empty, memory has the marked words");
@@ -494,16 +522,16 @@ static void schedules_with_clears(void) {
 }
 
 /* What the archive writes in a run and a price over lists of so many numbers; the out-parameters hold garbage before.
- * A list whose length is no whole number of records is refused by 2, after 1 and 10. By these three nothing changes. */
+ * A list whose length is no whole number of records is refused by 2, after 1 and 10. By a refusal nothing changes. */
 static uint32_t run_numbers(struct host *h, cuzkelor_setup setup, size_t length, size_t value_count) {
     uint32_t numbers[12] = {0}, values[3] = {GARBAGE, GARBAGE, GARBAGE};
     size_t taken = GARBAGE, place = GARBAGE;
     struct host before = *h;
     uint32_t refusal = cuzkelor_run(setup.processors, setup.lines, setup.block_words, setup.block_count,
                                     setup.fetch_price, setup.write_back_price, h->blocks, SLOTS, h->counters, SLOTS,
-                                    h->marks, SLOTS, h->words, SLOTS * P, h->memory, M * P, &h->account.requests,
-                                    &h->account.fetch, &h->account.write_back, &h->account.update, numbers, length,
-                                    values, value_count, &taken, &place);
+                                    h->marks, SLOTS, h->words, SLOTS * P, h->memory, M * P, h->masks, M,
+                                    &h->account.requests, &h->account.fetch, &h->account.write_back,
+                                    &h->account.update, numbers, length, values, value_count, &taken, &place);
     if (refusal == 0) return 0;
     check(taken == 0 && place == 0 && values[0] == GARBAGE, "nothing taken");
     check(memcmp(h, &before, sizeof before) == 0, "nothing changes");
@@ -544,6 +572,144 @@ static void whole_lists(void) {
     check(price_numbers(SETUP, 4, 4) == CUZKELOR_WRONG_LENGTH, "a schedule less two numbers");
     check(price_numbers(NINE_PROCESSORS, 6, 4) == CUZKELOR_SETUP_OUT_OF_RANGE, "nine processors");
     check(price_numbers(DEAR_WRITE_BACK, 6, 4) == CUZKELOR_PRICE_OUT_OF_RANGE, "a dear write-back");
+}
+
+/* What changes the masks, one after the other. Blocks 0 and 8 have line 0. */
+static void masks_by_hand(void) {
+    struct host h = fresh(SETUP);
+    reads(&h, 0, 0, 0, FETCH);
+    check(h.masks[0] == 1, "a miss");
+    reads(&h, 3, 0, 0, FETCH);
+    reads(&h, 2, 0, 0, FETCH);
+    check(h.masks[0] == 1 + 4 + 8, "three holders");
+    reads(&h, 3, 32, 0, FETCH);
+    check(h.masks[0] == 1 + 4 && h.masks[8] == 8, "an eviction");
+    for (uint32_t k = 1; k <= 4; k++) {
+        writes(&h, 2, 0, k, UPDATE);
+        check(h.masks[0] == (k < 4 ? 1 + 4 : 4), "broadcasts, of which the last empties the payer's line");
+    }
+    writes(&h, 2, 0, 9, NOTHING);
+    check(h.masks[0] == 4, "a write alone");
+    clears(&h, 2, 1);
+    check(h.masks[0] == 0 && h.masks[8] == 8, "a clear");
+}
+
+/* The refusal of a run of one write by a processor, where so many masks are lent: those of the host, cut or with
+ * further ones of 0. By 1, 10, 2, 20 and 21 nothing changes. */
+static uint32_t run_with_masks(struct host *h, cuzkelor_setup setup, size_t mask_count, uint32_t processor) {
+    uint8_t masks[2 * M] = {0}, masks_before[2 * M];
+    uint32_t value = GARBAGE;
+    memcpy(masks, h->masks, M);
+    memcpy(masks_before, masks, sizeof masks);
+    struct host before = *h;
+    cuzkelor_tables tables = tables_of(h);
+    tables.masks = lent_bytes(masks, mask_count);
+    cuzkelor_request request = cuzkelor_write(processor, cuzkelor_make_variable(4), 5);
+    cuzkelor_run_answer answer = cuzkelor_run_requests(setup, &tables, &h->account, &request, 1, &value, 1);
+    if (cuzkelor_refuses_call(answer.refusal)) {
+        check(answer.taken == 0 && answer.place == 0 && value == GARBAGE, "nothing taken");
+        check(memcmp(h, &before, sizeof before) == 0, "nothing changes");
+        check(memcmp(masks, masks_before, sizeof masks) == 0, "no mask changes");
+    }
+    return answer.refusal;
+}
+
+/* Block 0 is held by 0 and 1, the last block by 3, and most blocks by none. */
+static struct host some_holders(void) {
+    struct host h = after_s4();
+    reads(&h, 3, P * M - 1, 0, FETCH);
+    check(h.masks[0] == 1 + 2 && h.masks[1] == 0 && h.masks[M - 1] == 8, "some holders");
+    return h;
+}
+
+/* The requests before a refused one count: 0 evicts block 0, and 2 fetches it. */
+static void masks_of_a_stopped_run(void) {
+    struct host h = some_holders();
+    cuzkelor_tables tables = tables_of(&h);
+    uint32_t values[4];
+    cuzkelor_variable zero = cuzkelor_make_variable(0), missing = cuzkelor_make_variable(P * M);
+    cuzkelor_request requests[] = {cuzkelor_read(0, cuzkelor_make_variable(32)), cuzkelor_read(2, zero),
+                                   cuzkelor_read(3, missing), cuzkelor_read(3, zero)};
+    cuzkelor_run_answer answer = cuzkelor_run_requests(SETUP, &tables, &h.account, requests, 4, values, 4);
+    check(answer.refusal == CUZKELOR_NO_SUCH_VARIABLE && answer.place == 2, "stopped by 4");
+    check(masks_true(&h) && h.masks[0] == 2 + 4 && h.masks[8] == 1, "the masks");
+}
+
+/* Each bit of each mask turned over: it is missing, or of a processor without the block, or of none. */
+static void false_masks(void) {
+    struct host h = some_holders();
+    for (uint32_t bit = 0; bit < 8 * M; bit++) {
+        uint8_t *mask = &h.masks[bit / 8], is_true = *mask;
+        *mask = (uint8_t)(is_true ^ 1u << bit % 8);
+        check(run_with_masks(&h, SETUP, M, 0) == CUZKELOR_UNSOUND_TABLES, "a false mask");
+        *mask = is_true;
+    }
+    h.masks[1] = h.masks[0];
+    h.masks[0] = 0;
+    check(run_with_masks(&h, SETUP, M, 0) == CUZKELOR_UNSOUND_TABLES, "the mask of another block");
+    check(run_numbers(&h, SETUP, 0, 0) == CUZKELOR_UNSOUND_TABLES, "of no requests too");
+    h.masks[0] = h.masks[1];
+    h.masks[1] = 0;
+    check(run_with_masks(&h, SETUP, M, 0) == CUZKELOR_NO_REFUSAL, "true masks");
+}
+
+static void mask_lengths(void) {
+    struct host h = some_holders(), before = h;
+    cuzkelor_tables tables = tables_of(&h);
+    for (size_t count = 0; count <= 2 * M; count++) {
+        if (count == M) continue;
+        uint8_t masks[2 * M], masks_before[2 * M];
+        memset(masks, 0x77, sizeof masks);
+        memset(masks_before, 0x77, sizeof masks);
+        tables.masks = lent_bytes(masks, count);
+        check(run_with_masks(&h, SETUP, count, 0) == CUZKELOR_WRONG_LENGTH, "a run");
+        check(cuzkelor_start_tables(SETUP, &tables) == CUZKELOR_WRONG_LENGTH, "starting");
+        check(cuzkelor_start_tables(DEAR_WRITE_BACK, &tables) == CUZKELOR_PRICE_OUT_OF_RANGE, "after 10");
+        check(cuzkelor_start_tables(NINE_AND_DEAR, &tables) == CUZKELOR_SETUP_OUT_OF_RANGE, "after 1");
+        check(memcmp(masks, masks_before, sizeof masks) == 0, "no mask changes");
+        check(memcmp(&h, &before, sizeof h) == 0, "no table changes");
+    }
+}
+
+/* In the order of the checks, with everything met that comes later. */
+static void masks_in_order(void) {
+    struct host h = some_holders();
+    cuzkelor_account impossible = {0, 1, 0, 0};
+    h.account = impossible;
+    h.masks[M - 1] = 0;
+    check(run_with_masks(&h, NINE_AND_DEAR, M - 1, N) == CUZKELOR_SETUP_OUT_OF_RANGE, "1 comes first");
+    check(run_with_masks(&h, DEAR_WRITE_BACK, M - 1, N) == CUZKELOR_PRICE_OUT_OF_RANGE, "then 10");
+    check(run_with_masks(&h, SETUP, M - 1, N) == CUZKELOR_WRONG_LENGTH, "then 2");
+    check(run_with_masks(&h, SETUP, M, N) == CUZKELOR_UNSOUND_TABLES, "then 20");
+    h.masks[M - 1] = 8;
+    h.counters[0] = P + 1;
+    check(run_with_masks(&h, SETUP, M + 1, N) == CUZKELOR_WRONG_LENGTH, "2 comes before 20 of the tables");
+    check(run_with_masks(&h, SETUP, M, N) == CUZKELOR_UNSOUND_TABLES, "which true masks do not help");
+    h.counters[0] = P;
+    check(run_with_masks(&h, SETUP, M, N) == CUZKELOR_IMPOSSIBLE_ACCOUNT, "then 21");
+    memset(&h.account, 0, sizeof h.account);
+    check(run_with_masks(&h, SETUP, M, N) == CUZKELOR_NO_SUCH_PROCESSOR, "then 3");
+}
+
+/* Looks and traces are lent no masks. Before a run goes on from what a trace left, its masks are made. */
+static void masks_of_a_trace(void) {
+    static const char trace[] = "0 00000000\n0 01000000\n1 03000004\n0 02000300\n";
+    const size_t length = sizeof trace - 1;
+    struct host h = fresh(cuzkelor_trace_setup()), before;
+    cuzkelor_tables tables = tables_of(&h), without = tables;
+    without.masks = lent_bytes(NULL, 0);
+    check(cuzkelor_count_din(&without, trace, length).refusal == CUZKELOR_NO_REFUSAL, "counted without masks");
+    check(cuzkelor_look(SETUP, &without, 1, cuzkelor_make_block(0)).length == P, "a look without masks");
+    memset(h.masks, 0x77, sizeof h.masks);
+    before = h;
+    check(cuzkelor_count_din(&tables, trace, length).refusal == CUZKELOR_NO_REFUSAL, "counted with masks");
+    check(memcmp(&h, &before, sizeof h) == 0, "which stay");
+    check(run_with_masks(&h, SETUP, M, 0) == CUZKELOR_UNSOUND_TABLES, "the masks are false");
+    cuzkelor_fill_masks(SETUP, &tables);
+    memcpy(before.masks, h.masks, sizeof h.masks);
+    check(memcmp(&h, &before, sizeof h) == 0 && masks_true(&h), "only the masks are made anew");
+    check(h.masks[0] == 1 + 2 + 8 && h.masks[48] == 4, "of the trace's copies");
+    reads(&h, 2, 0, 0, FETCH);
 }
 
 /* Marsaglia's seed, and the first requests that it gives on SETUP. */
@@ -645,6 +811,7 @@ static void the_longest_generated_list(void) {
     cuzkelor_run_answer answer = cuzkelor_run_requests(SETUP, &tables, &h.account, list, count, values, count);
     check(answer.refusal == CUZKELOR_NO_REFUSAL && answer.taken == count, "taken to the end");
     check(h.account.requests == count, "the account is full");
+    check(masks_true(&h), "the masks");
 }
 
 /* A trace that is refused at once writes its out-parameters too. */
@@ -660,7 +827,7 @@ static void a_trace_refused_at_once(void) {
 }
 
 static void version(void) {
-    check(cuzkelor_version() == 5 && CUZKELOR_VERSION == 5, "version 5");
+    check(cuzkelor_version() == 6 && CUZKELOR_VERSION == 6, "version 6");
     check(cuzkelor_version_matches(), "the archive belongs to the header");
 }
 
@@ -689,9 +856,9 @@ static void lengths(void) {
     cuzkelor_setup most = {CUZKELOR_MOST_PROCESSORS,  CUZKELOR_MOST_LINES,       CUZKELOR_MOST_BLOCK_WORDS,
                            CUZKELOR_MOST_BLOCK_COUNT, CUZKELOR_MOST_FETCH_PRICE, CUZKELOR_MOST_FETCH_PRICE};
     check(cuzkelor_slot_count(SETUP) == 32 && cuzkelor_word_count(SETUP) == 128, "slots and words");
-    check(cuzkelor_variable_count(SETUP) == 256, "variables");
+    check(cuzkelor_variable_count(SETUP) == 256 && cuzkelor_mask_count(SETUP) == 64, "variables and masks");
     check(cuzkelor_slot_count(most) == 512 && cuzkelor_word_count(most) == 8192, "the most slots and words");
-    check(cuzkelor_variable_count(most) == 4096, "the most variables");
+    check(cuzkelor_variable_count(most) == 4096 && cuzkelor_mask_count(most) == 256, "the most variables and masks");
     check(cuzkelor_setup_in_range(most), "in range");
 }
 
@@ -699,8 +866,9 @@ static void lengths(void) {
 static void ranges(void) {
     static const uint32_t numbers[] = {0, 1, 4, 5, 8, 9, 16, 17, 32, 33, 64, 65, 256, 257, UINT32_MAX};
     uint32_t nothing[1];
+    uint8_t no_mask[1];
     cuzkelor_numbers none = {nothing, 0};
-    cuzkelor_tables tables = {none, none, none, none, none};
+    cuzkelor_tables tables = {none, none, none, none, none, lent_bytes(no_mask, 0)};
     for (size_t k = 0; k < 6 * sizeof numbers / sizeof numbers[0]; k++) {
         uint32_t places[6] = {1, 1, 1, 1, 5, 4};
         places[k % 6] = numbers[k / 6];
@@ -744,6 +912,12 @@ int main(void) {
                  {"a schedule", a_schedule},
                  {"schedules with clears", schedules_with_clears},
                  {"whole lists", whole_lists},
+                 {"masks by hand", masks_by_hand},
+                 {"masks of a stopped run", masks_of_a_stopped_run},
+                 {"false masks", false_masks},
+                 {"mask lengths", mask_lengths},
+                 {"masks in order", masks_in_order},
+                 {"masks of a trace", masks_of_a_trace},
                  {"a generated list", a_generated_list},
                  {"generated lists that depend on little", generated_lists_that_depend_on_little},
                  {"refused generated lists", refused_generated_lists},

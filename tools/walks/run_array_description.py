@@ -16,10 +16,10 @@ TABLES = ['blocks', 'counters', 'marks', 'words', 'memory']
 
 run_array = Lending(
     root=ROOT, here=HERE, kit=KIT, name='run_array', entry=Entry(HERE, 'run', 'run', 'Run'),
-    params=[('setup', Setup)] + [(n, Slice('u32')) for n in TABLES] + [('account', Account), ('requests', Array(Request, 8)), ('values', Slice('u32'))],
+    params=[('setup', Setup)] + [(n, Slice('u32')) for n in TABLES] + [('masks', Slice('u8')), ('account', Account), ('requests', Array(Request, 8)), ('values', Slice('u32'))],
     refs=['account'], answer=RunAnswer, result=Kind('Ran', 'host_numbers'), made='record {{ answer = {answer}; account = {account} }}', fields=['answer', 'account'],
-    says='outcome {answer} (lent {blocks} {counters} {marks} {words} {memory}) {account} {values} ≡ ran (engine setup) (lent %s) account requests values' % ' '.join(TABLES),
-    cites=[('protocol', 'Tables', ['tables as lent']), ('protocol', 'Engines', ['run as ran']), ('protocol', 'Runs', ['engine']), ('run_progress', 'Progress', ['outcome'])])
+    says='outcome {answer} (masked (lent {blocks} {counters} {marks} {words} {memory}) {masks}) {account} {values} ≡ ran (maskedEngine setup) (masked (lent %s) masks) account requests values' % ' '.join(TABLES),
+    cites=[('protocol', 'Tables', ['tables as lent']), ('protocol', 'Masks', ['masked']), ('protocol', 'Engines', ['run as ran']), ('protocol', 'Runs', ['maskedEngine']), ('run_progress', 'Progress', ['outcome'])])
 
 
 def write(path, text):

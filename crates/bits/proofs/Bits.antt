@@ -71,7 +71,7 @@ mask-same n P Q e = is-mask n Q (maskOf n P) (mask-below n P) (λ i u. mask-bit 
 
 -- ---- one number more
 
-mask-suc : (n : ℕ) (P : ℕ → Bool) → maskOf (suc n) P ≡ maskOf n P + cond (P n) (2 ^ n) 0
+pub mask-suc : (n : ℕ) (P : ℕ → Bool) → maskOf (suc n) P ≡ maskOf n P + cond (P n) (2 ^ n) 0
 mask-suc zero P = go (P 0)
   where
     go : (b : Bool) → cond b 1 0 + 2 * 0 ≡ 0 + cond b (2 ^ 0) 0
@@ -82,12 +82,6 @@ mask-suc (suc n) P = go (P (suc n)) (cond (P 0) 1 0) (maskOf n (λ i. P (suc i))
     go : (b : Bool) (d k : ℕ) {l : ℕ} → l ≡ k + cond b (2 ^ n) 0 → d + 2 * l ≡ d + 2 * k + cond b (2 ^ suc n) 0
     go true d k e = rw (pow-succ' 2 n) (omega arith)
     go false d k e = omega arith
-
-pub mask-more : (n : ℕ) (P : ℕ → Bool) → P n ≡ true → maskOf (suc n) P ≡ maskOf n P + 2 ^ n
-mask-more n P e = mask-suc n P ∙ rw e
-
-pub mask-still : (n : ℕ) (P : ℕ → Bool) → P n ≡ false → maskOf (suc n) P ≡ maskOf n P
-mask-still n P e = mask-suc n P ∙ rw e (omega arith)
 
 -- with one bit more it is still a byte
 pub mask-room : (n : ℕ) (P : ℕ → Bool) → n < 8 → maskOf n P + 2 ^ n < 256

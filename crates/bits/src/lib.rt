@@ -6,7 +6,7 @@ ghost use Rattle.protocol_types.specs.Bits.{bitAt};
 ghost use Rattle.bits.specs.Bits.{withBit, withoutBit, withoutLowest};
 
 // The byte with bit i alone.
-fn bit(i: u8) -> u8
+pub fn bit(i: u8) -> u8
     requires { ⌜ i < 8 ⌝ }
     ensures { λ r. ⌜ r ≡ 2 ^ i ⌝ }
 {

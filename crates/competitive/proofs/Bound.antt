@@ -7,14 +7,14 @@ use mathlib.Core.List.{List, [], _∷_}
 use native.Mathlib.Omega.{arith}
 use native.Mathlib.Nat.{le-refl}
 use lib.ListN.{set}
-use lib.Dec.{ltb, eqb}
+use lib.Dec.{eqb}
 use borrow.Author.Tests.{eqb-true, eq-eqb}
 use Rattle.protocol_types.specs.Lists.{at}
 use Rattle.protocol_types.specs.Refusals.{noRefusal, lineInUse, blockNotHeld, dropOfMarked}
 use Rattle.protocol_types.specs.Board.{Fits, slots, lineSlot, slot, blockOf, offsetOf, fetchPrice}
 use Rattle.protocol.specs.Tables.{Tables, Sized, counter, block, holdsAt, holds, sharing, marked}
 use Rattle.protocol.specs.Soundness.{Sound}
-use Rattle.protocol.specs.Rules.{writtenBack, emptied, filled, saved, evicted, owner, released, fetched, obtained, payer, writtenAlone, broadcast, charged, written, cleared}
+use Rattle.protocol.specs.Rules.{evicted, fetched, obtained, payer, writtenAlone, broadcast, charged, written, cleared}
 use Rattle.protocol_types.specs.Conditions.{Named}
 use Rattle.protocol.specs.Requests.{servedBy, served}
 use Rattle.protocol.specs.Accounts.{fetchAndUpdate}
@@ -27,13 +27,13 @@ use Rattle.protocol_types.specs.declared.Operation.{Operation}
 use Rattle.protocol_types.specs.declared.Operation.the-variants.{Read, Write, Clear}
 use Rattle.protocol_types.specs.declared.Entry.{Entry}
 use Rattle.protocol_types.specs.declared.Entry.the-variants.{Fetch, WriteBack, Drop, Complete, CompleteByBroadcast}
-use Rattle.protocol_types.proofs.Laws.{Known, sure, not-so, known, choice, chosen-zero, agree, both-true, and-true, other-some, at-set-same, at-set-other, at-set-zero}
+use Rattle.protocol_types.proofs.Laws.{Known, sure, not-so, known, choice, chosen-zero, both-true, and-true, other-some, at-set-same, at-set-other}
 use Rattle.protocol_types.proofs.Board.{block-path, block-number, lineSlot-lt, slot-lt, slot-inj, offset-lt, block-lt}
 use Rattle.protocol.proofs.Holding.{holdsAt-false, holder-slot, payer-below, payer-found}
-use Rattle.protocol.proofs.Lengths.{block-stored, counter-stored, sized-evicted, sized-released, sized-broadcast}
+use Rattle.protocol.proofs.Lengths.{counter-stored, sized-broadcast}
 use Rattle.protocol.proofs.Rival.{move-legal, line-empty, Completable, Completion, completion-legal, sized-played}
 use Rattle.competitive.proofs.Sums.{sum, sum-one}
-use Rattle.protocol.proofs.Slots.{released-counters, released-blocks, evicted-counter, evicted-block, evicted-zero, refetched-counter-same, refetched-block-same, refetched-counter, refetched-block, charged-counter-same, charged-counter, charged-block-same, charged-block, obtained-holds}
+use Rattle.protocol.proofs.Slots.{evicted-counter, evicted-block, evicted-zero, refetched-counter-same, refetched-block-same, refetched-counter, refetched-block, charged-counter-same, charged-counter, charged-block-same, charged-block, obtained-holds}
 use Rattle.competitive.proofs.StepSound.{sound-cleared, sound-obtained, sound-served}
 use Rattle.competitive.proofs.Potential.{Potential}
 

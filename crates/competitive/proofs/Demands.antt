@@ -1,4 +1,4 @@
--- The demands hold of every setup that is not refused (`demands`); a run that is refused at once adds nothing, whatever the setup (`refused-at-once`, proofs/RefusedAtOnce).
+-- The demands hold of every setup that is not refused (`demands`); a run that is refused at once adds nothing (`refused-at-once`, proofs/RefusedAtOnce), and masks are right (`masks-right`, proofs/Masks), whatever the setup.
 use mathlib.Core.Path.{_≡_}
 use Rattle.protocol_types.specs.Refusals.{noRefusal}
 use Rattle.protocol_types.specs.Board.{setupRefusal}
@@ -11,6 +11,7 @@ use Rattle.competitive.proofs.CostKinds.{cost-kinds}
 use Rattle.competitive.proofs.Tight.{tight-list}
 use Rattle.competitive.proofs.LastValues.{last-values}
 use Rattle.competitive.proofs.Priced.{judged-right, priced-right}
+use Rattle.competitive.proofs.Masks.{masks-right}
 use Rattle.competitive.proofs.Generator.{repeatable}
 use Rattle.competitive.proofs.EngineSchedule.{runs-rival}
 
@@ -26,6 +27,7 @@ demands s accepted = record {
     kinds = cost-kinds s;
     tight = tight-list s accepted;
   };
+  masks-right = masks-right s;
   repeatable = repeatable s;
   engine-is-rival = λ a p rs. runs-rival s accepted (a .requests) rs;
 }

@@ -5,10 +5,10 @@ use mathlib.Core.List.{List}
 use native.Mathlib.Omega.{arith}
 use lib.ListN.{length, take}
 use Rattle.protocol_types.specs.Refusals.{noRefusal}
-use Rattle.protocol.specs.Tables.{fresh}
+use Rattle.protocol.specs.Masks.{freshMasked}
 use Rattle.protocol.specs.Accounts.{freshAccount}
 use Rattle.protocol.specs.Engines.{answered, run}
-use Rattle.protocol.specs.Runs.{engine}
+use Rattle.protocol.specs.Runs.{maskedEngine}
 use Rattle.protocol.specs.Generator.{workload, generateRefusal, generated}
 use Rattle.competitive.specs.Claims.{Repeatable}
 use Rattle.protocol_types.specs.declared.Setup.{Setup}
@@ -24,7 +24,7 @@ generated-is s seed lent e = rw e
 
 -- of n requests
 pub workload-taken : (s : Setup) (seed n : ℕ) → generateRefusal s seed n ≡ noRefusal → (vs : List ℕ) → length vs ≡ n
-    → run (engine s) (fresh s) freshAccount (workload s seed n) vs .answer ≡ answered n noRefusal 0
+    → run (maskedEngine s) (freshMasked s) freshAccount (workload s seed n) vs .answer ≡ answered n noRefusal 0
 workload-taken s seed n e vs k =
     let p = generate-passed s seed n e in
     let l : length (workload s seed n) ≡ n = length-workload s seed n in

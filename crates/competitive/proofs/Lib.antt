@@ -17,5 +17,6 @@ pub mod Shown
 pub mod Priced
 pub mod LastValues
 pub mod EngineSchedule
+pub mod Masks
 pub mod RefusedAtOnce
 pub mod Demands

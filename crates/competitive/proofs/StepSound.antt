@@ -10,9 +10,9 @@ use lib.Dec.{ltb}
 use borrow.Author.Tests.{ltb-true, ltb-false, eqb-true}
 use Rattle.protocol_types.specs.Lists.{at}
 use Rattle.protocol_types.specs.Board.{Fits, slots, lineSlot, slot, lineOf, blockOf, offsetOf, fetchPrice}
-use Rattle.protocol.specs.Tables.{Tables, Sized, counter, block, mark, holdsAt, holds, sharing, marked}
+use Rattle.protocol.specs.Tables.{Tables, counter, block, mark, holds, sharing, marked}
 use Rattle.protocol.specs.Soundness.{Sound}
-use Rattle.protocol.specs.Rules.{writtenBack, filled, saved, evicted, owner, released, fetched, obtained, payer, broadcast, charged, written, cleared}
+use Rattle.protocol.specs.Rules.{writtenBack, saved, evicted, owner, released, fetched, obtained, payer, broadcast, charged, written, cleared}
 use Rattle.protocol_types.specs.Conditions.{Named, Valid}
 use Rattle.protocol.specs.Requests.{servedBy, served}
 use Rattle.protocol_types.specs.declared.Setup.{Setup}
@@ -21,9 +21,9 @@ use Rattle.protocol_types.specs.declared.Request.{Request}
 use Rattle.protocol_types.specs.declared.Operation.{Operation}
 use Rattle.protocol_types.specs.declared.Operation.the-variants.{Read, Write, Clear}
 use Rattle.protocol_types.proofs.Laws.{Same, same, apart, same?, choice, at-set-other}
-use Rattle.protocol_types.proofs.Board.{block-path, block-number, lineSlot-lt, slot-lt, slot-inj, offset-lt, block-lt, processor-lt, slot-proper}
-use Rattle.protocol.proofs.Holding.{true-holdsAt, holder-slot, slot-holder, sharing-none, payer-below, payer-found, owner-found, owner-none}
-use Rattle.protocol.proofs.Lengths.{block-stored, counter-stored, mark-stored, sized-evicted, sized-released}
+use Rattle.protocol_types.proofs.Board.{block-number, lineSlot-lt, slot-lt, slot-inj, offset-lt, block-lt, processor-lt, slot-proper}
+use Rattle.protocol.proofs.Holding.{holder-slot, slot-holder, sharing-none, payer-below, payer-found, owner-found, owner-none}
+use Rattle.protocol.proofs.Lengths.{mark-stored}
 use Rattle.protocol.proofs.Slots.{obtained-holds}
 use Rattle.competitive.proofs.Sound.{sound-writtenBack, sound-emptied, sound-filled, sound-writtenAlone, sound-broadcast, sound-charged}
 

@@ -14,12 +14,13 @@ use Rattle.protocol_types.specs.Lists.{at, part, zeros, other}
 use Rattle.protocol_types.specs.Refusals.{noRefusal}
 use Rattle.protocol_types.specs.Board.{setupRefusal, Fits, variables, slots, slot, wordIndex, blockOf, offsetOf, fetchPrice}
 use Rattle.protocol.specs.Tables.{Tables, tables, fresh, holdsAt, holds, sharing, marked, memoryWords}
+use Rattle.protocol.specs.Masks.{freshMasked}
 use Rattle.protocol.specs.Rules.{writtenBack, emptied, filled, saved, saveCycles, evicted, owner, released, fetched, obtained, fetchCycles, writeBackCycles, payer, updatedCopies, broadcast, charged, written, updateCycles}
 use Rattle.protocol_types.specs.Conditions.{Valid, AllValid, requestLimit}
 use Rattle.protocol.specs.Requests.{served, bill}
 use Rattle.protocol.specs.Accounts.{plus, cycles, freshAccount, billOf}
 use Rattle.protocol.specs.Engines.{run, spent}
-use Rattle.protocol.specs.Runs.{engine}
+use Rattle.protocol.specs.Runs.{engine, maskedEngine}
 use Rattle.protocol.specs.Rival.{Rival, rival, noCopies, keepsAt, keeps, shared, unmarked, rivalFetched, rivalDropped, rivalCompleted, completionCycles, moveRefusal, completionRefusal, Legal, costs}
 use Rattle.competitive.specs.Claims.{TightList}
 use Rattle.protocol_types.specs.declared.Setup.{Setup}
@@ -508,9 +509,9 @@ module _ (s : Setup) (accepted : setupRefusal s ≡ noRefusal) (enough : 2 ≤ s
   few-tight = omega (arith, length-tight s k)
 
   spends-by-kind : (vs : List ℕ) → length vs ≡ length (tight s k)
-      → billOf (run (engine s) (fresh s) freshAccount (tight s k) vs .account) ≡ fetchUpdateBill (2 * fetchPrice s + fetchPrice s * k) (fetchPrice s * k)
+      → billOf (run (maskedEngine s) (freshMasked s) freshAccount (tight s k) vs .account) ≡ fetchUpdateBill (2 * fetchPrice s + fetchPrice s * k) (fetchPrice s * k)
   spends-by-kind vs e =
-      rw (leaves-whole s accepted (tight s k) valid few-tight vs e .account, tight-spent s ok enough k) (bill-path (omega arith) (omega arith) (omega arith))
+      rw (leaves-whole s accepted (tight s k) valid few-tight vs e, tight-spent s ok enough k) (bill-path (omega arith) (omega arith) (omega arith))
 
   pub tight-list : TightList s k
   tight-list = record {

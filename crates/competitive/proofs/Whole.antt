@@ -1,4 +1,4 @@
--- One run from fresh tables and a fresh account takes a list of valid requests to the end, if the account has room for them: no request is refused (request by request), the run is refused by 2 alone (lawful), and it leaves what run-left says.
+-- One run from fresh tables and a fresh account takes a list of valid requests to the end, if the account has room for them: no request is refused (request by request), the run is refused by 2 alone (lawful), and it leaves what run-left says. With masks the same (fresh-run).
 use Prim.Native.Nat.{ℕ, suc, _+_, _≤_, _<_}
 use mathlib.Core.Path.{_≡_, refl, ap, _∙_}
 use mathlib.Core.List.{List, [], _∷_}
@@ -10,17 +10,19 @@ use Rattle.protocol_types.specs.Refusals.{noRefusal}
 use Rattle.protocol_types.specs.Board.{setupRefusal}
 use Rattle.protocol.specs.Tables.{Tables, fresh}
 use Rattle.protocol.specs.Soundness.{Sound}
+use Rattle.protocol.specs.Masks.{freshMasked}
 use Rattle.protocol_types.specs.Conditions.{Valid, AllValid, requestRefusal, requestLimit}
 use Rattle.protocol.specs.Requests.{value, served, bill}
 use Rattle.protocol.specs.Accounts.{entered, freshAccount}
-use Rattle.protocol.specs.Engines.{answered, Outcome, onward, runFrom, run, takenFrom, takenRun}
-use Rattle.protocol.specs.Runs.{runRefusal, engine}
+use Rattle.protocol.specs.Engines.{answered, Outcome, onward, runFrom, run, takenFrom, takenRun, spent}
+use Rattle.protocol.specs.Runs.{runRefusal, engine, maskedEngine}
 use Rattle.protocol_types.specs.declared.Setup.{Setup}
 use Rattle.protocol_types.specs.declared.Request.{Request}
 use Rattle.protocol_types.specs.declared.Account.{Account}
 use Rattle.protocol_types.specs.declared.RunAnswer.{RunAnswer}
 use Rattle.protocol_types.proofs.Conditions.{named-passes}
 use Rattle.protocol.proofs.Engines.{Left, run-left}
+use Rattle.protocol.proofs.Masks.{fresh-run}
 use Rattle.competitive.proofs.Fresh.{sound-fresh}
 use Rattle.competitive.proofs.Lawful.{fresh-possible, lawful}
 
@@ -54,14 +56,20 @@ module _ (s : Setup) (accepted : setupRefusal s ≡ noRefusal) (qs : List Reques
   begins = lawful s accepted .checked (fresh s) freshAccount (length qs) vs (sound-fresh s) (fresh-possible s) ∙ rw (eq-eqb (length vs) (length qs) e)
 
   -- all are taken, and none is refused
-  pub answers-whole : run (engine s) (fresh s) freshAccount qs vs .answer ≡ answered (length qs) noRefusal 0
+  answers-rules : run (engine s) (fresh s) freshAccount qs vs .answer ≡ answered (length qs) noRefusal 0
   unfolding run
-  answers-whole = rw begins (runFrom-whole s (fresh s) freshAccount qs vs valid (omega (arith, few)))
+  answers-rules = rw begins (runFrom-whole s (fresh s) freshAccount qs vs valid (omega (arith, few)))
+
+  pub answers-whole : run (maskedEngine s) (freshMasked s) freshAccount qs vs .answer ≡ answered (length qs) noRefusal 0
+  answers-whole = rw (fresh-run s freshAccount qs vs) answers-rules
 
   takes-whole : takenRun (engine s) 0 (record { requests = qs; values = vs }) ≡ qs
   unfolding takenRun
   takes-whole = rw (eq-eqb (length vs) (length qs) e) (taken-whole s 0 qs valid (omega (arith, few)))
 
-  -- and the run leaves what the rules say of the whole list
-  pub leaves-whole : Left (engine s) (fresh s) freshAccount qs (run (engine s) (fresh s) freshAccount qs vs)
-  leaves-whole = rw takes-whole at (run-left s (engine s) (Sound s) (Valid s) (lawful s accepted) (fresh s) freshAccount (record { requests = qs; values = vs }) (sound-fresh s) (fresh-possible s))
+  -- and the account is charged what the rules charge for the whole list
+  leaves-rules : Left (engine s) (fresh s) freshAccount qs (run (engine s) (fresh s) freshAccount qs vs)
+  leaves-rules = rw takes-whole at (run-left s (engine s) (Sound s) (Valid s) (lawful s accepted) (fresh s) freshAccount (record { requests = qs; values = vs }) (sound-fresh s) (fresh-possible s))
+
+  pub leaves-whole : run (maskedEngine s) (freshMasked s) freshAccount qs vs .account ≡ entered freshAccount (length qs) (spent (engine s) (fresh s) qs)
+  leaves-whole = rw (fresh-run s freshAccount qs vs) (leaves-rules .account)

@@ -1,21 +1,23 @@
--- What the demands say of whole lists of runs, of whole schedules and of generated lists. proofs/Demands proves it: `Demands` of every setup that is not refused, `RefusedAtOnce` of every setup.
+-- What the demands say of whole lists of runs, of whole schedules and of generated lists. proofs/Demands proves it: `Demands` of every setup that is not refused, `RefusedAtOnce` and `MasksRight` of every setup.
 use Prim.Native.Nat.{ℕ, zero, suc, _+_, _*_, _≤_, _<_}
 use mathlib.Core.Path.{_≡_}
 use mathlib.Core.Logic.{_≢_}
 use mathlib.Core.Bool.{Bool, true, false, _&&_, cond}
 use mathlib.Core.List.{List, [], _∷_}
 use lib.ListN.{length, take}
-use lib.Dec.{eqb}
+use lib.Dec.{ltb, eqb}
 use Rattle.protocol_types.specs.Lists.{at}
-use Rattle.protocol_types.specs.Refusals.{noRefusal}
-use Rattle.protocol_types.specs.Board.{setupRefusal, fetchPrice, writeBackPrice, variables, slots, lineSlot}
-use Rattle.protocol.specs.Tables.{Tables, counter, block, mark, word, memoryWord, marked, sized, fresh}
-use Rattle.protocol.specs.Soundness.{Sound, sound}
+use Rattle.protocol_types.specs.Bits.{bitAt}
+use Rattle.protocol_types.specs.Refusals.{noRefusal, unsoundTables}
+use Rattle.protocol_types.specs.Board.{setupRefusal, fetchPrice, writeBackPrice, variables, lineSlot}
+use Rattle.protocol.specs.Tables.{Tables, counter, block, mark, word, memoryWord, holds, marked, fresh}
+use Rattle.protocol.specs.Soundness.{Sound}
+use Rattle.protocol.specs.Masks.{masksOf, Masked, withMasks, freshMasked, sizedMasked, soundMasked}
 use Rattle.protocol_types.specs.Conditions.{requestLimit}
 use Rattle.protocol.specs.Requests.{served, value, bill}
 use Rattle.protocol.specs.Accounts.{cycles, fetchAndUpdate, freshAccount, entered, cyclesOf, billOf, possible}
-use Rattle.protocol.specs.Engines.{answered, run, Run, State, outcomes, runs, takenAll, spent, expectedAll, valuesOf, Never20Or21}
-use Rattle.protocol.specs.Runs.{engine, opening}
+use Rattle.protocol.specs.Engines.{answered, endedBy, run, Run, State, outcomes, runs, takenAll, spent, expectedAll, valuesOf, Never20Or21}
+use Rattle.protocol.specs.Runs.{maskedRefusal, engine, maskedEngine, maskedOpening, maskedOutcome, maskedOutcomes, maskedState}
 use Rattle.protocol.specs.Rival.{Rival, noCopies, played, left, cost, Legal, costs, lastCopies}
 use Rattle.protocol.specs.Pricer.{accepted, verdict, priceRefusal, price, priceTables}
 use Rattle.protocol.specs.Generator.{generateRefusal, generated}
@@ -34,12 +36,12 @@ use Rattle.protocol_types.specs.declared.PriceAnswer.the-variants.{Accepted, Re
 
 -- ---- demand 3
 
--- a list of runs from fresh tables and account a
+-- a list of runs from fresh tables and masks and account a; the masks are handed on with the tables (document 02, P7)
 pub record Claim (s : Setup) (a : Account) (rs : List (Run Request)) : Type 0 where
   -- "the account's three cycle counts together grow by exactly that sum": what the rules charge for the requests taken, in order from fresh tables
-  pub grows : cyclesOf (runs (engine s) (opening s a) rs .account) ≡ cyclesOf a + cycles (spent (engine s) (fresh s) (takenAll (engine s) (a .requests) rs))
+  pub grows : cyclesOf (runs (maskedEngine s) (maskedOpening s a) rs .account) ≡ cyclesOf a + cycles (spent (engine s) (fresh s) (takenAll (engine s) (a .requests) rs))
   -- the requests in it grow by the number taken
-  pub counts : runs (engine s) (opening s a) rs .account .requests ≡ a .requests + length (takenAll (engine s) (a .requests) rs)
+  pub counts : runs (maskedEngine s) (maskedOpening s a) rs .account .requests ≡ a .requests + length (takenAll (engine s) (a .requests) rs)
   -- "Twice the cost of every legal schedule is at least that sum."
   pub halves : (es : List Entry) → Legal s (noCopies s) (takenAll (engine s) (a .requests) rs) es
       → cycles (spent (engine s) (fresh s) (takenAll (engine s) (a .requests) rs)) ≤ 2 * cycles (costs s (noCopies s) (takenAll (engine s) (a .requests) rs) es)
@@ -56,7 +58,7 @@ pub record SplitBill (c d : Bill) : Type 0 where
 -- the same list of runs, account and requests taken as in `Claim`, which follows from it
 pub record SplitClaim (s : Setup) (a : Account) (rs : List (Run Request)) : Type 0 where
   -- each count of the account grows by exactly what the rules charge of its kind, and its requests by the number taken
-  pub grows : runs (engine s) (opening s a) rs .account
+  pub grows : runs (maskedEngine s) (maskedOpening s a) rs .account
       ≡ entered a (length (takenAll (engine s) (a .requests) rs)) (spent (engine s) (fresh s) (takenAll (engine s) (a .requests) rs))
   -- "for every legal rival"
   pub splits : (es : List Entry) → Legal s (noCopies s) (takenAll (engine s) (a .requests) rs) es
@@ -100,14 +102,14 @@ pub record TightList (s : Setup) (k : ℕ) : Type 0 where
   pub requests : List Request
   pub schedule : List Entry
   pub many : length requests ≡ k * (fetchPrice s + 1) + 2
-  -- one run from fresh tables and a fresh account takes it whole, at exactly 2f + 2fk
-  pub whole : (vs : List ℕ) → length vs ≡ length requests → run (engine s) (fresh s) freshAccount requests vs .answer .refusal ≡ noRefusal
-  pub count : (vs : List ℕ) → length vs ≡ length requests → run (engine s) (fresh s) freshAccount requests vs .answer .taken ≡ length requests
+  -- one run from fresh tables and masks and a fresh account takes it whole, at exactly 2f + 2fk
+  pub whole : (vs : List ℕ) → length vs ≡ length requests → run (maskedEngine s) (freshMasked s) freshAccount requests vs .answer .refusal ≡ noRefusal
+  pub count : (vs : List ℕ) → length vs ≡ length requests → run (maskedEngine s) (freshMasked s) freshAccount requests vs .answer .taken ≡ length requests
   pub spends : (vs : List ℕ) → length vs ≡ length requests
-      → cyclesOf (run (engine s) (fresh s) freshAccount requests vs .account) ≡ 2 * fetchPrice s + 2 * (fetchPrice s * k)
+      → cyclesOf (run (maskedEngine s) (freshMasked s) freshAccount requests vs .account) ≡ 2 * fetchPrice s + 2 * (fetchPrice s * k)
   -- 2f + fk of them for fetches, fk for updates
   pub spends-by-kind : (vs : List ℕ) → length vs ≡ length requests
-      → billOf (run (engine s) (fresh s) freshAccount requests vs .account)
+      → billOf (run (maskedEngine s) (freshMasked s) freshAccount requests vs .account)
       ≡ record { fetch = 2 * fetchPrice s + fetchPrice s * k; «write_back» = 0; update = fetchPrice s * k }
   -- the schedule is legal for it, at exactly 2f + fk
   pub legal : Legal s (noCopies s) requests schedule
@@ -144,8 +146,9 @@ abbrev pub expectedValue : List Request → Request → ℕ
 expectedValue ps q = expectedBy ps (q .operation)
 
 pub record LastValues (s : Setup) : Type 0 where
-  pub values : (a : Account) → possible s a ≡ true → (rs : List (Run Request)) → valuesOf (outcomes (engine s) (opening s a) rs) ≡ expectedAll (engine s) expectedValue (a .requests) [] rs
-  pub never : (a : Account) → possible s a ≡ true → (rs : List (Run Request)) → Never20Or21 (outcomes (engine s) (opening s a) rs)
+  pub values : (a : Account) → possible s a ≡ true → (rs : List (Run Request))
+      → valuesOf (outcomes (maskedEngine s) (maskedOpening s a) rs) ≡ expectedAll (engine s) expectedValue (a .requests) [] rs
+  pub never : (a : Account) → possible s a ≡ true → (rs : List (Run Request)) → Never20Or21 (outcomes (maskedEngine s) (maskedOpening s a) rs)
 
 -- ---- what a clear does (document 02, P6), read off the tables before and after it
 
@@ -217,7 +220,7 @@ pub record JudgedRight (s : Setup) (qs : List Request) (es : List Entry) : Type 
 pub record Repeatable (s : Setup) (seed : ℕ) (lent : List Request) : Type 0 where
   -- "A generated list must be one that fresh tables and a fresh account take to the end."
   pub taken : (vs : List ℕ) → length vs ≡ length lent
-      → run (engine s) (fresh s) freshAccount (generated s seed lent) vs .answer ≡ answered (length lent) noRefusal 0
+      → run (maskedEngine s) (freshMasked s) freshAccount (generated s seed lent) vs .answer ≡ answered (length lent) noRefusal 0
   -- it depends on N, on M × p, on the seed and on the count alone: not on lines and prices, nor on what the list held
   pub alike : (t : Setup) (other : List Request) → generateRefusal t seed (length other) ≡ noRefusal
       → t .processors ≡ s .processors → variables t ≡ variables s → length other ≡ length lent → generated t seed other ≡ generated s seed lent
@@ -225,12 +228,42 @@ pub record Repeatable (s : Setup) (seed : ℕ) (lent : List Request) : Type 0 wh
   pub begins : (longer : List Request) → generateRefusal s seed (length longer) ≡ noRefusal → length lent ≤ length longer
       → take (length lent) (generated s seed longer) ≡ generated s seed lent
 
+-- ---- the masks of holders (document 02, P7): of every setup
+
+-- the masks of tables t: "one byte a block, bit i set exactly if processor i holds it"
+pub record HoldersShown (s : Setup) (t : Tables) : Type 0 where
+  pub many : length (masksOf s t) ≡ s .blocks
+  pub bytes : setupRefusal s ≡ noRefusal → (b : Block) → b .0 < s .blocks → at (masksOf s t) (b .0) < 256
+  -- a bit from N on is clear
+  pub bits : (b : Block) (i : ℕ) → b .0 < s .blocks → bitAt (at (masksOf s t) (b .0)) i ≡ ltb i (s .processors) && holds s t i b
+
+pub record MasksRight (s : Setup) : Type 0 where
+  pub holders : (t : Tables) → HoldersShown s t
+  -- starting leaves true masks
+  pub starting : freshMasked s ≡ withMasks s (fresh s)
+  -- "From true masks, every answer, the account and every old table must be proved the same as without masks, and the masks left are true again": the values too
+  pub same : (t : Tables) (a : Account) (qs : List Request) (vs : List ℕ)
+      → run (maskedEngine s) (withMasks s t) a qs vs ≡ maskedOutcome s (run (engine s) t a qs vs)
+  -- of a list of runs: what each answers and leaves, and what the whole list leaves
+  pub same-each : (w : State Tables) (rs : List (Run Request)) → outcomes (maskedEngine s) (maskedState s w) rs ≡ maskedOutcomes s (outcomes (engine s) w rs)
+  pub same-last : (w : State Tables) (rs : List (Run Request)) → runs (maskedEngine s) (maskedState s w) rs ≡ maskedState s (runs (engine s) w rs)
+  -- "Tables with a false mask are unsound (20)": so answers a run that 1, 10 and 2 let through
+  pub unsound : (x : Masked) (a : Account) (qs : List Request) (vs : List ℕ) → setupRefusal s ≡ noRefusal → sizedMasked s x ≡ true → length vs ≡ length qs
+      → x .masks ≢ masksOf s (x .tables) → run (maskedEngine s) x a qs vs ≡ endedBy unsoundTables x a vs
+  -- a run that 1, 10, 2, 20 or 21 refuses leaves the masks, and all else, as they were
+  pub refused : (x : Masked) (a : Account) (qs : List Request) (vs : List ℕ) → maskedRefusal s x a (length qs) vs ≢ noRefusal
+      → run (maskedEngine s) x a qs vs ≡ endedBy (maskedRefusal s x a (length qs) vs) x a vs
+  -- any other run, whatever it is lent, leaves the true masks of the tables that it leaves
+  pub left : (x : Masked) (a : Account) (qs : List Request) (vs : List ℕ) → maskedRefusal s x a (length qs) vs ≡ noRefusal
+      → run (maskedEngine s) x a qs vs .tables ≡ withMasks s (run (maskedEngine s) x a qs vs .tables .tables)
+
 -- ---- runs that 1, 10, 2, 20 or 21 refuses at once add nothing, so that 'any list of runs' has no gap: of every setup and every state
 
 pub record RefusedAtOnce (s : Setup) : Type 0 where
-  pub by-setup : setupRefusal s ≢ noRefusal → (w : State Tables) (rs : List (Run Request)) → runs (engine s) w rs ≡ w
-  pub by-tables : (w : State Tables) → sized s (w .tables) && sound s (w .tables) ≡ false → (rs : List (Run Request)) → runs (engine s) w rs ≡ w
-  pub by-account : (w : State Tables) → possible s (w .account) ≡ false → (rs : List (Run Request)) → runs (engine s) w rs ≡ w
+  pub by-setup : setupRefusal s ≢ noRefusal → (w : State Masked) (rs : List (Run Request)) → runs (maskedEngine s) w rs ≡ w
+  -- false masks too (document 02, P7)
+  pub by-tables : (w : State Masked) → sizedMasked s (w .tables) && soundMasked s (w .tables) ≡ false → (rs : List (Run Request)) → runs (maskedEngine s) w rs ≡ w
+  pub by-account : (w : State Masked) → possible s (w .account) ≡ false → (rs : List (Run Request)) → runs (maskedEngine s) w rs ≡ w
   -- a list that the generator refuses stays as it was (document 02, P2: "A refusal leaves the list untouched")
   pub list-stays : (seed : ℕ) (lent : List Request) → generateRefusal s seed (length lent) ≢ noRefusal → generated s seed lent ≡ lent
 
@@ -241,6 +274,7 @@ pub record Demands (s : Setup) : Type 0 where
   pub judged-right : (qs : List Request) (es : List Entry) → JudgedRight s qs es
   pub priced-right : (lent : Rival) (qs : List Request) (es : List Entry) → priceRefusal s lent (length es) (length qs) ≡ noRefusal → PricedRight s lent qs es
   pub demand3 : Demand3 s
+  pub masks-right : MasksRight s
   pub repeatable : (seed : ℕ) (lent : List Request) → generateRefusal s seed (length lent) ≡ noRefusal → Repeatable s seed lent
   -- the engine's own actions are a legal schedule for the requests that a list of runs takes
   pub engine-is-rival : (a : Account) → possible s a ≡ true → (rs : List (Run Request)) → EngineIsRival s (takenAll (engine s) (a .requests) rs)

@@ -102,10 +102,10 @@ pub fn evict(
     cycles
 }
 
-// A processor's cache is cleared, from line 0 up. Returns the cycles.
+// Processor i's cache is cleared, from line 0 up. Returns the cycles.
 pub fn clear(
     setup: Setup,
-    processor: u32,
+    i: u32,
     blocks: &mut [u32],
     counters: &mut [u32],
     marks: &mut [u32],
@@ -114,22 +114,22 @@ pub fn clear(
     masks: &mut [u8],
 ) -> u32
     requires { ⌜ Fits setup ⌝ }
-    requires { ⌜ processor < setup .processors ⌝ }
+    requires { ⌜ i < setup .processors ⌝ }
     requires { ⌜ ((k : ℕ) → at (now blocks) k < setup .blocks) ⌝ }
     requires { ⌜ Proper setup (lent blocks counters marks words memory) ⌝ }
     requires { ⌜ Sized setup (lent blocks counters marks words memory) ⌝ }
     requires { ⌜ TrueMasks setup (lent blocks counters marks words memory) masks ⌝ }
-    ensures { λ r. ⌜ r ≡ clearCycles setup (before blocks counters marks words memory) processor (setup .lines) ⌝ }
-    ensures { λ _. ⌜ after blocks counters marks words memory ≡ cleared setup (before blocks counters marks words memory) processor (setup .lines) ⌝ }
+    ensures { λ r. ⌜ r ≡ clearCycles setup (before blocks counters marks words memory) i (setup .lines) ⌝ }
+    ensures { λ _. ⌜ after blocks counters marks words memory ≡ cleared setup (before blocks counters marks words memory) i (setup .lines) ⌝ }
     ensures { λ _. ⌜ now (masks .exit) ≡ masksOf setup (after blocks counters marks words memory) ⌝ }
 {
     let n = setup.lines;
     let mut cycles = 0;
     for l in 0..n {
-        let k = setup.line_slot(processor, l);
+        let k = setup.line_slot(i, l);
         cycles += evict(
             setup,
-            processor,
+            i,
             k,
             blocks,
             counters,

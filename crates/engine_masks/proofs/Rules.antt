@@ -1,25 +1,25 @@
 -- What each part of a rule does to the masks of tables: a line emptied, fetched into, refilled or charged. From the law of one slot (Slots).
 -- Assumes nothing.
-use Prim.Native.Nat.{ℕ, _+_, _-_, _*_, _%_, _<_}
+use Prim.Native.Nat.{ℕ, _+_, _-_, _*_, _<_}
 use mathlib.Core.Path.{_≡_, refl, sym, ap, _∙_}
 use mathlib.Core.Logic.{_≢_}
 use mathlib.Core.Bool.{true, false, and-false}
 use native.Mathlib.Omega.{arith}
 use lib.ListN.{set}
-use lib.Dec.{ltb, eqb}
+use lib.Dec.{eqb}
 use borrow.Author.Tests.{lt-ltb, eqb-true, eqb-false, ne-eqb}
-use Rattle.protocol_types.specs.Board.{Fits, slots, lineSlot, slot, lineOf, fetchPrice}
-use Rattle.protocol.specs.Tables.{Tables, Sized, counter, block, holdsAt, holds}
+use Rattle.protocol_types.specs.Board.{Fits, slots, lineSlot, slot, lineOf}
+use Rattle.protocol.specs.Tables.{Tables, Sized, counter, block, holdsAt}
 use Rattle.protocol.specs.Masks.{masksOf}
-use Rattle.protocol.specs.Rules.{evicted, fetched, writtenAlone, broadcast, charged}
+use Rattle.protocol.specs.Rules.{evicted, fetched, charged}
 use Rattle.protocol_types.specs.declared.Setup.{Setup}
 use Rattle.protocol_types.specs.declared.Block.{Block}
 use Rattle.protocol_types.proofs.Laws.{choice, at-set, at-set-other}
 use Rattle.protocol_types.proofs.Board.{block-path, row-mod, lineSlot-lt, line-lt}
-use Rattle.protocol.proofs.Holding.{holdsAt-true, true-holdsAt}
+use Rattle.protocol.proofs.Holding.{true-holdsAt}
 use Rattle.protocol.proofs.Slots.{evicted-counter, evicted-block, evicted-zero, refetched-counter-same, refetched-block-same, refetched-counter, refetched-block, charged-counter-same, charged-counter, charged-block}
 use Rattle.engine_masks.specs.Copies.{gained, lost, lostAt, Proper, StandsAt}
-use Rattle.engine_masks.proofs.Slots.{Elsewhere, SameAt, masks-stay, masks-gain, masks-lose}
+use Rattle.engine_masks.proofs.Slots.{Elsewhere, masks-stay, masks-gain, masks-lose}
 
 -- ---- what a slot does not hold
 

@@ -1,22 +1,21 @@
 -- The masks of tables where one slot changes: those of all other blocks stay, and in that of the slot's block one bit is set or cleared.
 -- Assumes nothing.
-use Prim.Native.Nat.{ℕ, _≤_, _<_}
-use mathlib.Core.Path.{_≡_, refl, sym, ap, ap₂, _∙_}
+use Prim.Native.Nat.{ℕ, _<_}
+use mathlib.Core.Path.{_≡_, sym, ap, ap₂, _∙_}
 use mathlib.Core.Logic.{_≢_}
-use mathlib.Core.Bool.{Bool, true, false, _&&_, _||_}
+use mathlib.Core.Bool.{true, false, _&&_, _||_}
 use lib.ListN.{length, set, length-set}
 use lib.Dec.{ltb, eqb}
 use borrow.Author.Tests.{eq-eqb, ne-eqb}
 use Rattle.protocol_types.specs.Lists.{at, another}
-use Rattle.protocol_types.specs.Bits.{maskOf}
-use Rattle.protocol_types.specs.Board.{Fits, slots, slot}
+use Rattle.protocol_types.specs.Board.{Fits, slot}
 use Rattle.bits.specs.Bits.{withBit, withoutBit}
 use Rattle.protocol.specs.Tables.{Tables, counter, block, holdsAt, holds}
 use Rattle.protocol.specs.Masks.{holders, holdersAt, masksOf}
 use Rattle.protocol_types.specs.declared.Setup.{Setup}
 use Rattle.protocol_types.specs.declared.Block.{Block}
 use Rattle.protocol_types.proofs.Laws.{Same, same, apart, same?, at-set-same, at-set-other}
-use Rattle.protocol_types.proofs.Board.{block-path, slot-inj}
+use Rattle.protocol_types.proofs.Board.{slot-inj}
 use Rattle.bits.proofs.Bits.{mask-same}
 use Rattle.bits.proofs.Bytes.{with-mask, without-mask}
 use Rattle.protocol.proofs.Masks.{masks-length, masks-at, masks-are}

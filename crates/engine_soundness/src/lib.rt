@@ -2,13 +2,16 @@
 use protocol_types::Block;
 use protocol_types::Setup;
 ghost use mathlib.Core.Path.{_≡_};
+ghost use mathlib.Core.Bool.{cond};
 ghost use mathlib.Core.List.{List};
-ghost use Prim.Native.Nat.{ℕ, _<_};
+ghost use Prim.Native.Nat.{ℕ, _+_, _^_, _<_};
+ghost use lib.ListN.{length};
 ghost use Rattle.protocol_types.specs.Lists.{at};
 ghost use Rattle.protocol_types.specs.Board.{Fits, slots, lineSlot};
-ghost use Rattle.protocol.specs.Tables.{Sized};
-ghost use Rattle.protocol.specs.Lent.{lent, before, unlent, PerSlot, PerSlotWord};
+ghost use Rattle.protocol.specs.Tables.{Sized, holds};
+ghost use Rattle.protocol.specs.Lent.{lent, before, maskedBefore, unlent, PerSlot, PerSlotWord};
 ghost use Rattle.protocol.specs.Soundness.{emptyLine, copyLine, soundLine, sound};
+ghost use Rattle.protocol.specs.Masks.{holders, trueMasks, soundMasked};
 
 // Whether the empty line at slot k is all 0.
 fn empty_line_sound(setup: Setup, k: usize, blocks: &[u32], marks: &[u32], words: &[u32]) -> bool
@@ -90,7 +93,7 @@ fn line_sound(
 }
 
 // Whether every line of every processor is sound.
-pub fn is_sound(
+fn lines_sound(
     setup: Setup,
     blocks: &[u32],
     counters: &[u32],
@@ -116,4 +119,70 @@ pub fn is_sound(
         i += 1;
     }
     i == n
+}
+
+// The mask of the processors below i that hold a block, with that of processor i.
+fn add_holder(setup: Setup, block: Block, mask: u8, i: u8, blocks: &[u32], counters: &[u32]) -> u8
+    requires { ⌜ Fits setup ⌝ }
+    requires { ⌜ i < setup .processors ⌝ }
+    requires { ⌜ mask + 2 ^ i < 256 ⌝ }
+    requires { ⌜ PerSlot setup blocks × PerSlot setup counters ⌝ }
+    ensures { λ r. ⌜ ((m w g : List ℕ) → r ≡ mask + cond (holds setup (before blocks counters (unlent m) (unlent w) (unlent g)) i block) (2 ^ i) 0) ⌝ }
+{
+    if !engine_holders::holds(setup, i as u32, block, blocks, counters) {
+        return mask;
+    }
+    mask + bits::bit(i)
+}
+
+// The true mask of a block.
+fn block_mask(setup: Setup, block: Block, blocks: &[u32], counters: &[u32]) -> u8
+    requires { ⌜ Fits setup ⌝ }
+    requires { ⌜ PerSlot setup blocks × PerSlot setup counters ⌝ }
+    ensures { λ r. ⌜ ((m w g : List ℕ) → r ≡ holders setup (before blocks counters (unlent m) (unlent w) (unlent g)) block) ⌝ }
+{
+    let n = setup.processors as u8;
+    let mut mask: u8 = 0;
+    for i in 0..n {
+        mask = add_holder(setup, block, mask, i, blocks, counters);
+    }
+    mask
+}
+
+// Whether every mask is the true one of its block.
+fn masks_true(setup: Setup, blocks: &[u32], counters: &[u32], masks: &[u8]) -> bool
+    requires { ⌜ Fits setup ⌝ }
+    requires { ⌜ PerSlot setup blocks × PerSlot setup counters × (length (now masks) ≡ setup .blocks) ⌝ }
+    ensures { λ r. ⌜ ((m w g : List ℕ) → r ≡ trueMasks setup (maskedBefore blocks counters (unlent m) (unlent w) (unlent g) masks)) ⌝ }
+{
+    let n = setup.blocks;
+    let mut b = 0;
+    while b < n {
+        if masks[b as usize] != block_mask(setup, Block(b), blocks, counters) {
+            break;
+        }
+        b += 1;
+    }
+    b == n
+}
+
+// Whether tables and masks are let through by condition 20.
+pub fn is_sound(
+    setup: Setup,
+    blocks: &[u32],
+    counters: &[u32],
+    marks: &[u32],
+    words: &[u32],
+    memory: &[u32],
+    masks: &[u8],
+) -> bool
+    requires { ⌜ Fits setup ⌝ }
+    requires { ⌜ Sized setup (lent blocks counters marks words memory) ⌝ }
+    requires { ⌜ length (now masks) ≡ setup .blocks ⌝ }
+    ensures { λ r. ⌜ r ≡ soundMasked setup (maskedBefore blocks counters marks words memory masks) ⌝ }
+{
+    if !lines_sound(setup, blocks, counters, marks, words, memory) {
+        return false;
+    }
+    masks_true(setup, blocks, counters, masks)
 }

@@ -11,37 +11,47 @@ use borrow.Author.Tests.{eqb-true, ltb-true, ne-eqb}
 use Rattle.protocol_types.specs.Lists.{part}
 use Rattle.protocol_types.specs.Refusals.{noRefusal, unless, wrongLength}
 use Rattle.protocol_types.specs.Board.{Fits, setupRefusal, slot, slots, wordIndex}
-use Rattle.protocol.specs.Tables.{Tables, sized, fresh, directory, holds}
+use Rattle.protocol.specs.Tables.{Sized, sized, directory, holds}
+use Rattle.protocol.specs.Masks.{Masked, freshMasked, sizedMasked}
 use Rattle.protocol.specs.Runs.{startRefusal, started, looked}
 use Rattle.protocol_types.specs.declared.Setup.{Setup}
 use Rattle.protocol_types.specs.declared.Block.{Block}
 use Rattle.protocol_types.proofs.Laws.{both-true}
 use Rattle.protocol_types.proofs.Refusals.{first-refuses}
 use Rattle.protocol_types.proofs.Board.{setup-fits}
+use Rattle.protocol.proofs.Checked.{passed-sized}
 use Rattle.engine_tables.specs.Entries.{lengthsFit, seen}
 
 -- ---- starting
 
-module _ (s : Setup) (t : Tables) where
-  pub start-refused : setupRefusal s ≢ noRefusal → (setupRefusal s ≡ startRefusal s t) × (t ≡ started s t)
+module _ (s : Setup) (x : Masked) where
+  pub start-refused : setupRefusal s ≢ noRefusal → (setupRefusal s ≡ startRefusal s x) × (x ≡ started s x)
   unfolding startRefusal started
   start-refused d =
-      let e = first-refuses (setupRefusal s) (unless (sized s t) wrongLength noRefusal) d in
+      let e = first-refuses (setupRefusal s) (unless (sizedMasked s x) wrongLength noRefusal) d in
       (sym e, sym (rw (e, ne-eqb (setupRefusal s) noRefusal d)))
 
-  pub start-unsized : setupRefusal s ≡ noRefusal → sized s t ≡ false → (wrongLength ≡ startRefusal s t) × (t ≡ started s t)
+  pub start-unsized : setupRefusal s ≡ noRefusal → sizedMasked s x ≡ false → (wrongLength ≡ startRefusal s x) × (x ≡ started s x)
   unfolding startRefusal started
   start-unsized r l = (sym (rw (r, l)), sym (rw (r, l)))
 
-  pub start-filled : setupRefusal s ≡ noRefusal → sized s t ≡ true → (noRefusal ≡ startRefusal s t) × (fresh s ≡ started s t)
+  pub start-filled : setupRefusal s ≡ noRefusal → sizedMasked s x ≡ true → (noRefusal ≡ startRefusal s x) × (freshMasked s ≡ started s x)
   unfolding startRefusal started
   start-filled r l = (sym (rw (r, l)), sym (rw (r, l)))
 
 -- ---- tests
 
-pub sized-is : (s : Setup) (t : Tables) → sized s t ≡ lengthsFit s (length (t .blocks)) (length (t .counters)) (length (t .marks)) (length (t .words)) (length (t .memory))
-unfolding sized lengthsFit
-sized-is s t = refl
+  pub sized-is : sizedMasked s x
+      ≡ lengthsFit s (length (x .tables .blocks)) (length (x .tables .counters)) (length (x .tables .marks)) (length (x .tables .words)) (length (x .tables .memory)) (length (x .masks))
+  unfolding sizedMasked sized lengthsFit
+  sized-is = refl
+
+  -- the right lengths, as facts
+  pub passed-lengths : sizedMasked s x ≡ true → Sized s (x .tables) × (length (x .masks) ≡ s .blocks)
+  unfolding sizedMasked
+  passed-lengths e =
+      let l = both-true (sized s (x .tables)) (eqb (length (x .masks)) (s .blocks)) e in
+      (passed-sized s (x .tables) (l .0), eqb-true _ _ (l .1))
 
 pub looked-is : (s : Setup) (b c w : List ℕ) (i : ℕ) (d : Block) → looked s b c w i d ≡ cond (seen s b c (length w) i d) (part w (wordIndex s (slot s i d) 0) (s .words)) []
 unfolding looked seen

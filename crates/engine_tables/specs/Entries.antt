@@ -10,10 +10,10 @@ use Rattle.protocol.specs.Tables.{directory, holds}
 use Rattle.protocol_types.specs.declared.Setup.{Setup}
 use Rattle.protocol_types.specs.declared.Block.{Block}
 
--- protocol's sized, on the tables' lengths
-unfoldable pub lengthsFit : Setup → ℕ → ℕ → ℕ → ℕ → ℕ → Bool
-lengthsFit s b c m w g =
-    eqb b (slots s) && eqb c (slots s) && eqb m (slots s) && eqb w (slots s * s .words) && eqb g (variables s)
+-- protocol's sizedMasked, on the lengths of the tables and the masks
+unfoldable pub lengthsFit : Setup → ℕ → ℕ → ℕ → ℕ → ℕ → ℕ → Bool
+lengthsFit s b c m w g h =
+    eqb b (slots s) && eqb c (slots s) && eqb m (slots s) && eqb w (slots s * s .words) && eqb g (variables s) && eqb h (s .blocks)
 
 -- the condition of protocol's looked, where there are n words
 unfoldable pub seen : Setup → List ℕ → List ℕ → ℕ → ℕ → Block → Bool

@@ -3,11 +3,11 @@ use protocol_types::Block;
 use protocol_types::Setup;
 ghost use mathlib.Core.Path.{_≡_};
 ghost use Rattle.protocol_types.specs.Board.{Fits};
-ghost use Rattle.protocol.specs.Lent.{before, after};
+ghost use Rattle.protocol.specs.Lent.{maskedBefore, maskedAfter};
 ghost use Rattle.protocol.specs.Runs.{startRefusal, started, looked};
 ghost use Rattle.engine_tables.specs.Entries.{lengthsFit, seen};
 
-// Whether tables of these lengths are let through by condition 2.
+// Whether tables and masks of these lengths are let through by condition 2.
 pub fn lengths_fit(
     setup: Setup,
     blocks: usize,
@@ -15,9 +15,10 @@ pub fn lengths_fit(
     marks: usize,
     words: usize,
     memory: usize,
+    masks: usize,
 ) -> bool
     requires { ⌜ Fits setup ⌝ }
-    ensures { λ r. ⌜ r ≡ lengthsFit setup blocks counters marks words memory ⌝ }
+    ensures { λ r. ⌜ r ≡ lengthsFit setup blocks counters marks words memory masks ⌝ }
 {
     if blocks != setup.slot_count() {
         return false;
@@ -31,10 +32,13 @@ pub fn lengths_fit(
     if words != setup.word_count() {
         return false;
     }
-    memory == setup.variable_count() as usize
+    if memory != setup.variable_count() as usize {
+        return false;
+    }
+    masks == setup.blocks as usize
 }
 
-// Fills all tables with 0. The refusal number, or 0.
+// Fills all tables and masks with 0. The refusal number, or 0.
 pub fn start(
     setup: Setup,
     blocks: &mut [u32],
@@ -42,9 +46,10 @@ pub fn start(
     marks: &mut [u32],
     words: &mut [u32],
     memory: &mut [u32],
+    masks: &mut [u8],
 ) -> u32
-    ensures { λ r. ⌜ r ≡ startRefusal setup (before blocks counters marks words memory) ⌝ }
-    ensures { λ _. ⌜ after blocks counters marks words memory ≡ started setup (before blocks counters marks words memory) ⌝ }
+    ensures { λ r. ⌜ r ≡ startRefusal setup (maskedBefore blocks counters marks words memory masks) ⌝ }
+    ensures { λ _. ⌜ maskedAfter blocks counters marks words memory masks ≡ started setup (maskedBefore blocks counters marks words memory masks) ⌝ }
 {
     let refusal = setup.refusal();
     if refusal != protocol_types::NO_REFUSAL {
@@ -57,6 +62,7 @@ pub fn start(
         marks.len(),
         words.len(),
         memory.len(),
+        masks.len(),
     ) {
         return protocol_types::WRONG_LENGTH;
     }
@@ -65,6 +71,7 @@ pub fn start(
     parts::clear(marks);
     parts::clear(words);
     parts::clear(memory);
+    parts::clear_bytes(masks);
     protocol_types::NO_REFUSAL
 }
 

@@ -4,7 +4,7 @@ use protocol_types::Block;
 use protocol_types::PriceAnswer;
 use protocol_types::Setup;
 ghost use mathlib.Core.Path.{_≡_};
-ghost use Rattle.protocol.specs.Lent.{before, after};
+ghost use Rattle.protocol.specs.Lent.{before, after, maskedBefore, maskedAfter};
 ghost use Rattle.protocol.specs.Engines.{answered};
 ghost use Rattle.protocol.specs.Runs.{startRefusal, started};
 ghost use Rattle.protocol.specs.Pricer.{numbered, numberOf, placeOf, costOf};
@@ -17,7 +17,7 @@ ghost use Rattle.host_numbers.specs.Numbers.{runNumbers, priceInNumbers, priceT
 ghost use Rattle.host.specs.Host.{hostVersion, setupOf, accountBefore, accountAfter, blockNumbered, reportOf};
 
 // It counts the changes of these functions' signatures and meanings, and the functions that are added.
-const VERSION: u32 = 5;
+const VERSION: u32 = 6;
 
 // The version of these functions, by which a host can tell whether it was built for them.
 #[no_mangle]
@@ -48,7 +48,7 @@ fn setup_of(
     }
 }
 
-// Fills all tables with 0. The refusal number, or 0.
+// Fills all tables and masks with 0. The refusal number, or 0.
 #[no_mangle]
 pub extern "C" fn cuzkelor_start(
     processors: u32,
@@ -62,10 +62,11 @@ pub extern "C" fn cuzkelor_start(
     marks: &mut [u32],
     words: &mut [u32],
     memory: &mut [u32],
+    masks: &mut [u8],
 ) -> u32
-    ensures { λ r. ⌜ r ≡ startRefusal (setupOf processors lines «block_words» «block_count» «fetch_price» «write_back_price») (before blocks counters marks words memory) ⌝ }
-    ensures { λ _. ⌜ after blocks counters marks words memory
-        ≡ started (setupOf processors lines «block_words» «block_count» «fetch_price» «write_back_price») (before blocks counters marks words memory) ⌝ }
+    ensures { λ r. ⌜ r ≡ startRefusal (setupOf processors lines «block_words» «block_count» «fetch_price» «write_back_price») (maskedBefore blocks counters marks words memory masks) ⌝ }
+    ensures { λ _. ⌜ maskedAfter blocks counters marks words memory masks
+        ≡ started (setupOf processors lines «block_words» «block_count» «fetch_price» «write_back_price») (maskedBefore blocks counters marks words memory masks) ⌝ }
 {
     let setup = setup_of(
         processors,
@@ -75,7 +76,7 @@ pub extern "C" fn cuzkelor_start(
         fetch_price,
         write_back_price,
     );
-    engine_tables::start(setup, blocks, counters, marks, words, memory)
+    engine_tables::start(setup, blocks, counters, marks, words, memory, masks)
 }
 
 // The length of the part of the words that a look at a block shows; 0 where it is not held.
@@ -150,6 +151,7 @@ pub extern "C" fn cuzkelor_run(
     marks: &mut [u32],
     words: &mut [u32],
     memory: &mut [u32],
+    masks: &mut [u8],
     account_requests: &mut u32,
     account_fetch: &mut u32,
     account_write_back: &mut u32,
@@ -160,9 +162,9 @@ pub extern "C" fn cuzkelor_run(
     place: &mut usize,
 ) -> u32
     ensures { λ r. ⌜ outcome (answered (now (taken .exit)) r (now (place .exit)))
-        (after blocks counters marks words memory) (accountAfter «account_requests» «account_fetch» «account_write_back» «account_update») (now (values .exit))
+        (maskedAfter blocks counters marks words memory masks) (accountAfter «account_requests» «account_fetch» «account_write_back» «account_update») (now (values .exit))
         ≡ runNumbers (setupOf processors lines «block_words» «block_count» «fetch_price» «write_back_price»)
-        (before blocks counters marks words memory) (accountBefore «account_requests» «account_fetch» «account_write_back» «account_update»)
+        (maskedBefore blocks counters marks words memory masks) (accountBefore «account_requests» «account_fetch» «account_write_back» «account_update»)
         (now (requests .entry)) (now (values .entry)) ⌝ }
 {
     let setup = setup_of(
@@ -186,6 +188,7 @@ pub extern "C" fn cuzkelor_run(
         marks,
         words,
         memory,
+        masks,
         account,
         requests,
         values,

@@ -5,13 +5,13 @@ use mathlib.Core.Bool.{true, false}
 use mathlib.Core.List.{List}
 use native.Mathlib.Omega.{arith}
 use lib.ListN.{length, getD}
-use Rattle.protocol.specs.Tables.{Tables}
+use Rattle.protocol.specs.Masks.{Masked}
 use Rattle.protocol.specs.Accounts.{nothing}
 use Rattle.protocol_types.specs.declared.Setup.{Setup}
 use Rattle.protocol_types.specs.declared.Account.{Account}
 use Rattle.protocol_types.specs.declared.Request.{Request}
 use Rattle.protocol.specs.Engines.{endedBy, run}
-use Rattle.protocol.specs.Runs.{runRefusal, engine}
+use Rattle.protocol.specs.Runs.{maskedRefusal, maskedEngine}
 use Rattle.protocol_types.proofs.Conditions.{no-request}
 use Rattle.run_progress.specs.Progress.{Room, RunStage, runStage, begun, turned}
 use Rattle.run_progress.proofs.Loop.{Small}
@@ -20,10 +20,10 @@ use Rattle.host_decoding.specs.Records.{requestWidth, whole, partialRefusal, re
 use Rattle.host_decoding.proofs.Decoding.{request-count, request-at}
 use Rattle.host_numbers.specs.Numbers.{runNumbers}
 
-module _ (s : Setup) (t : Tables) (a : Account) (ns : List ℕ) (vs : List ℕ) where
+module _ (s : Setup) (t : Masked) (a : Account) (ns : List ℕ) (vs : List ℕ) where
   -- ---- a list that is whole, and one that is not
 
-  pub run-whole : whole requestWidth ns ≡ true → run (engine s) t a (requestsOf ns) vs ≡ runNumbers s t a ns vs
+  pub run-whole : whole requestWidth ns ≡ true → run (maskedEngine s) t a (requestsOf ns) vs ≡ runNumbers s t a ns vs
   unfolding runNumbers
   run-whole e = rw e
 
@@ -33,12 +33,12 @@ module _ (s : Setup) (t : Tables) (a : Account) (ns : List ℕ) (vs : List ℕ) 
 
   -- ---- the loop
 
-  pub begins : Room a 0 nothing → (n : ℕ) → n ≡ length (requestsOf ns) → Inv s t a (requestsOf ns) vs (runStage (begun (runRefusal s t a n vs) a n) t vs)
+  pub begins : Room a 0 nothing → (n : ℕ) → n ≡ length (requestsOf ns) → Inv s t a (requestsOf ns) vs (runStage (begun (maskedRefusal s t a n vs) a n) t vs)
   begins h n e =
       let small : Small a = (omega (arith, h .requests), (omega (arith, h .fetch), (omega (arith, h .write-back), omega (arith, h .update)))) in
       rw e (inv-start s t a (requestsOf ns) vs small)
 
-  module _ (x : RunStage Tables) (i : Inv s t a (requestsOf ns) vs x) (go : x .progress .going ≡ true) where
+  module _ (x : RunStage Masked) (i : Inv s t a (requestsOf ns) vs x) (go : x .progress .going ≡ true) where
     abbrev k : ℕ
     k = x .progress .answer .taken
 
@@ -46,12 +46,12 @@ module _ (s : Setup) (t : Tables) (a : Account) (ns : List ℕ) (vs : List ℕ) 
     within = omega (arith, inv-within s t a (requestsOf ns) vs x i go, request-count ns)
 
     -- the stage after the request at the place
-    module _ (q : Request) (is : q ≡ requestAt ns k) (y : RunStage Tables) (after : y ≡ turned (engine s) x q) where
-      next : turned (engine s) x (getD (requestsOf ns) k no-request) ≡ y
-      next = ap (turned (engine s) x) (sym (is ∙ request-at ns k no-request within)) ∙ sym after
+    module _ (q : Request) (is : q ≡ requestAt ns k) (y : RunStage Masked) (after : y ≡ turned (maskedEngine s) x q) where
+      next : turned (maskedEngine s) x (getD (requestsOf ns) k no-request) ≡ y
+      next = ap (turned (maskedEngine s) x) (sym (is ∙ request-at ns k no-request within)) ∙ sym after
 
       pub turns : Inv s t a (requestsOf ns) vs y
       turns = subst (Inv s t a (requestsOf ns) vs) next (inv-turn s t a (requestsOf ns) vs x i go)
 
       pub falls : μ s t a (requestsOf ns) vs y < μ s t a (requestsOf ns) vs x
-      falls = subst (λ (z : RunStage Tables). μ s t a (requestsOf ns) vs z < μ s t a (requestsOf ns) vs x) next (inv-falls s t a (requestsOf ns) vs x i go)
+      falls = subst (λ (z : RunStage Masked). μ s t a (requestsOf ns) vs z < μ s t a (requestsOf ns) vs x) next (inv-falls s t a (requestsOf ns) vs x i go)

@@ -2,9 +2,9 @@
 use Prim.Native.Nat.{ℕ}
 use mathlib.Core.Bool.{cond}
 use mathlib.Core.List.{List}
-use Rattle.protocol.specs.Tables.{Tables}
+use Rattle.protocol.specs.Masks.{Masked}
 use Rattle.protocol.specs.Engines.{Outcome, endedBy, run}
-use Rattle.protocol.specs.Runs.{engine}
+use Rattle.protocol.specs.Runs.{maskedEngine}
 use Rattle.protocol.specs.Rival.{Rival}
 use Rattle.protocol.specs.Pricer.{price, priceTables, PriceNumbers, numbered, priceNumbers}
 use Rattle.protocol_types.specs.declared.Setup.{Setup}
@@ -20,9 +20,9 @@ accountOf n f w u = record { requests = n; fetch = f; «write_back» = w; update
 -- ---- a run of the requests that the numbers ns name
 
 -- a list that is not whole is refused before its first request: none is taken, and nothing changes
-unfoldable pub runNumbers : Setup → Tables → Account → List ℕ → List ℕ → Outcome Tables
-runNumbers s t a ns vs =
-    cond (whole requestWidth ns) (run (engine s) t a (requestsOf ns) vs) (endedBy (partialRefusal s) t a vs)
+unfoldable pub runNumbers : Setup → Masked → Account → List ℕ → List ℕ → Outcome Masked
+runNumbers s x a ns vs =
+    cond (whole requestWidth ns) (run (maskedEngine s) x a (requestsOf ns) vs) (endedBy (partialRefusal s) x a vs)
 
 -- ---- the price, for the requests that the numbers ns name, of the schedule that the numbers ms name
 

@@ -4,9 +4,9 @@ use protocol_types::PriceAnswer;
 use protocol_types::RunAnswer;
 use protocol_types::Setup;
 ghost use mathlib.Core.Path.{_≡_};
-ghost use Rattle.protocol.specs.Lent.{before, after};
+ghost use Rattle.protocol.specs.Lent.{maskedBefore, maskedAfter};
 ghost use Rattle.protocol.specs.Engines.{run as ran};
-ghost use Rattle.protocol.specs.Runs.{engine};
+ghost use Rattle.protocol.specs.Runs.{maskedEngine};
 ghost use Rattle.protocol.specs.Pricer.{price as priced, priceTables, inNumbers};
 ghost use Rattle.protocol.specs.Accounts.{nothing};
 ghost use Rattle.rival_copies.specs.Copies.{rivalBefore, rivalAfter};
@@ -40,12 +40,13 @@ fn run_requests(
     marks: &mut [u32],
     words: &mut [u32],
     memory: &mut [u32],
+    masks: &mut [u8],
     account: Account,
     requests: &[u32],
     values: &mut [u32],
 ) -> Ran
-    ensures { λ r. ⌜ outcome (r .answer) (after blocks counters marks words memory) (r .account) (now (values .exit))
-        ≡ ran (engine setup) (before blocks counters marks words memory) account (requestsOf (now (requests .entry))) (now (values .entry)) ⌝ }
+    ensures { λ r. ⌜ outcome (r .answer) (maskedAfter blocks counters marks words memory masks) (r .account) (now (values .exit))
+        ≡ ran (maskedEngine setup) (maskedBefore blocks counters marks words memory masks) account (requestsOf (now (requests .entry))) (now (values .entry)) ⌝ }
 {
     let start = account_of(
         account.requests,
@@ -61,6 +62,7 @@ fn run_requests(
         &*marks,
         &*words,
         &*memory,
+        &*masks,
         &*values,
         start,
         count,
@@ -74,6 +76,7 @@ fn run_requests(
             marks,
             words,
             memory,
+            masks,
             values,
             p,
             request,
@@ -95,12 +98,13 @@ pub fn run(
     marks: &mut [u32],
     words: &mut [u32],
     memory: &mut [u32],
+    masks: &mut [u8],
     account: Account,
     requests: &[u32],
     values: &mut [u32],
 ) -> Ran
-    ensures { λ r. ⌜ outcome (r .answer) (after blocks counters marks words memory) (r .account) (now (values .exit))
-        ≡ runNumbers setup (before blocks counters marks words memory) account (now (requests .entry)) (now (values .entry)) ⌝ }
+    ensures { λ r. ⌜ outcome (r .answer) (maskedAfter blocks counters marks words memory masks) (r .account) (now (values .exit))
+        ≡ runNumbers setup (maskedBefore blocks counters marks words memory masks) account (now (requests .entry)) (now (values .entry)) ⌝ }
 {
     if !host_decoding::is_whole(requests, host_decoding::REQUEST_WIDTH) {
         return Ran {
@@ -119,6 +123,7 @@ pub fn run(
         marks,
         words,
         memory,
+        masks,
         account,
         requests,
         values,

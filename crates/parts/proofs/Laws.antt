@@ -1,6 +1,6 @@
 -- Laws of lists for loops over a part of the words, and for what a part leaves in the whole.
 -- Assumes nothing.
-use mathlib.Core.Path.{_≡_, refl, ap, subst}
+use mathlib.Core.Path.{_≡_, refl, ap, subst, _∙_}
 use mathlib.Core.Bool.{Bool, true, false, _&&_}
 use mathlib.Core.List.{List, [], _∷_, _++_, append-nil, append-assoc}
 use Prim.Native.Nat.{ℕ, zero, suc, _+_, _-_, _≤_, _<_}
@@ -8,7 +8,8 @@ use native.Mathlib.Nat.{not-suc-le-zero, le-of-suc-le-suc, add-sub-cancel-left}
 use native.Mathlib.Decide.{decLt}
 use native.Mathlib.Numerals.{add-one}
 use native.Mathlib.Omega.{arith}
-use lib.ListN.{length, getD, take, drop, set, length-drop, length-replicate}
+use lib.ListN.{length, getD, take, drop, set, length-set, length-drop, length-replicate}
+use borrow.Author.Fill.{fill-more}
 use lib.Seq.{sets, sets-eq, take-length, drop-length, drop-drop, length-take-le}
 use Rattle.protocol_types.specs.Lists.{part, zeros, all}
 
@@ -29,6 +30,28 @@ pub front-all : (ys xs : List ℕ) (i : ℕ) → length ys ≡ i → length xs �
 front-all ys xs i h k =
     subst (λ (n : ℕ). take n ys ++ drop i xs ≡ ys) h
     (subst (λ (n : ℕ). take (length ys) ys ++ drop n xs ≡ ys) k (rw (take-length, drop-length) (append-nil ys)))
+
+-- ---- a loop that clears xs from the front, whatever the width of its elements: i are passed, and ys is left so far
+
+pub record Cleared (xs ys : List ℕ) (i : ℕ) : Type 0 where
+  pub within : i ≤ length xs
+  pub lengths : length ys ≡ length xs
+  pub left : ys ≡ zeros i ++ drop i xs
+
+pub cleared-start : (xs : List ℕ) → Cleared xs xs 0
+cleared-start xs = record { within = omega arith; lengths = refl; left = refl }
+
+pub cleared-more : {xs ys : List ℕ} {i : ℕ} → Cleared xs ys i → i < length ys → Cleared xs (set ys i 0) (i + 1)
+cleared-more {xs} {ys} {i} c h = record {
+  within = omega (arith, c .lengths);
+  lengths = simp length-set (c .lengths);
+  left = rw (c .left) (fill-more i 0 xs (omega (arith, c .lengths)));
+}
+
+pub cleared-all : {xs ys : List ℕ} {i : ℕ} → Cleared xs ys i → length ys ≤ i → ys ≡ zeros (length xs)
+cleared-all {xs} {ys} {i} c h =
+    let e : i ≡ length xs = omega (arith, c .within, c .lengths) in
+    c .left ∙ rw (e, drop-length) (append-nil _)
 
 -- ---- a part that was lent as `&mut xs[a..a + n]`
 

@@ -19,6 +19,17 @@ pub fn clear(part: &mut [u32])
     }
 }
 
+// Every byte becomes 0.
+pub fn clear_bytes(bytes: &mut [u8])
+    ensures { λ _. ⌜ now (bytes .exit) ≡ zeros (length (now (bytes .entry))) ⌝ }
+{
+    let mut b = 0;
+    while b < bytes.len() {
+        bytes[b] = 0;
+        b += 1;
+    }
+}
+
 // The words of `to` become those of `from`, which has as many.
 fn copy(from: &[u32], to: &mut [u32])
     requires { ⌜ length (now from) ≡ length (now to) ⌝ }

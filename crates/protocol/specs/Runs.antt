@@ -1,7 +1,7 @@
 -- Starting, a look, what refuses a run, and the engine that the rules make (document 01, "The board", "What one request does" and the order of checks).
 use Prim.Native.Nat.{ℕ, _*_}
 use mathlib.Core.Bool.{Bool, _&&_, cond}
-use mathlib.Core.List.{List, []}
+use mathlib.Core.List.{List, [], _∷_}
 use lib.ListN.{length}
 use lib.Dec.{ltb, eqb}
 use Rattle.protocol_types.specs.Lists.{part}
@@ -13,7 +13,7 @@ use Rattle.protocol.specs.Masks.{Masked, withMasks, freshMasked, sizedMa
 use Rattle.protocol_types.specs.Conditions.{requestRefusal}
 use Rattle.protocol.specs.Requests.{served, value, bill}
 use Rattle.protocol.specs.Accounts.{possible}
-use Rattle.protocol.specs.Engines.{Engine, State}
+use Rattle.protocol.specs.Engines.{Engine, Outcome, State}
 use Rattle.protocol_types.specs.declared.Setup.{Setup}
 use Rattle.protocol_types.specs.declared.Block.{Block}
 use Rattle.protocol_types.specs.declared.Request.{Request}
@@ -81,3 +81,15 @@ maskedEngine s = record {
 
 abbrev pub maskedOpening : Setup → Account → State Masked
 maskedOpening s a = record { tables = freshMasked s; account = a }
+
+-- ---- what runs without masks answer and leave, with the true masks of the tables that they leave
+
+abbrev pub maskedOutcome : Setup → Outcome Tables → Outcome Masked
+maskedOutcome s o = record { answer = o .answer; tables = withMasks s (o .tables); account = o .account; values = o .values }
+
+abbrev pub maskedOutcomes : Setup → List (Outcome Tables) → List (Outcome Masked)
+maskedOutcomes s [] = []
+maskedOutcomes s (o ∷ os) = maskedOutcome s o ∷ maskedOutcomes s os
+
+abbrev pub maskedState : Setup → State Tables → State Masked
+maskedState s w = record { tables = withMasks s (w .tables); account = w .account }

@@ -1,17 +1,18 @@
 -- The twelve sessions of document 01 and the cases beside them, then those of document 02, as one table. proofs/Sessions proves that every row passes.
--- A session compares the answer, the values, the account and every entry of every table with what the row says.
-use Prim.Native.Nat.{ℕ, suc, _+_, _*_}
+-- A session compares the answer, the values, the account, every entry of every table and every mask of holders with what the row says.
+use Prim.Native.Nat.{ℕ, suc, _+_, _*_, _/_, _^_}
 use mathlib.Core.Bool.{Bool, true, false, _&&_, not, cond}
 use mathlib.Core.List.{List, [], _∷_}
 use lib.ListN.{length, replicate, set}
 use lib.Seq.{sets}
 use lib.Dec.{eqb}
+use Rattle.protocol_types.specs.Lists.{at, zeros}
 use Rattle.protocol_types.specs.Board.{slots}
 use Rattle.protocol.specs.Tables.{Tables, tables, fresh}
-use Rattle.protocol.specs.Masks.{withMasks}
+use Rattle.protocol.specs.Masks.{masksOf, Masked, masked, withMasks, freshMasked}
 use Rattle.protocol.specs.Accounts.{cycles, fetchAndUpdate, freshAccount, entered, billOf}
-use Rattle.protocol.specs.Engines.{answered, Outcome, run}
-use Rattle.protocol.specs.Runs.{startRefusal, started, looked, engine}
+use Rattle.protocol.specs.Engines.{answered, Outcome, runFrom, run}
+use Rattle.protocol.specs.Runs.{startRefusal, started, looked, maskedEngine}
 use Rattle.protocol.specs.Rival.{Rival, rival, noCopies, costs}
 use Rattle.protocol.specs.Pricer.{priceRefusal, price, priceTables, PriceNumbers, numbered, inNumbers}
 use Rattle.protocol.specs.Generator.{draws, generateRefusal, generated}
@@ -121,6 +122,15 @@ withCells t (c ∷ cs) = withCells (tables (t .blocks) (t .counters) (t .marks) 
 unfoldable pub holding : Setup → List Copy → List Cell → Tables
 holding s cs ms = withCells (withCopies s (fresh s) cs) ms
 
+-- the masks hs with these lines' bits; slot k is a line of processor k / L
+abbrev pub withHolders : Setup → List ℕ → List Copy → List ℕ
+withHolders s hs [] = hs
+withHolders s hs (c ∷ cs) = withHolders s (set hs (c .block) (at hs (c .block) + 2 ^ (c .slot / s .lines))) cs
+
+-- the masks of holders of these lines (document 02, P7)
+unfoldable pub holdersOf : Setup → List Copy → List ℕ
+holdersOf s cs = withHolders s (zeros (s .blocks)) cs
+
 -- ---- comparing
 
 abbrev pub sameList : List ℕ → List ℕ → Bool
@@ -133,6 +143,9 @@ abbrev pub sameTables : Tables → Tables → Bool
 sameTables t u =
     sameList (t .blocks) (u .blocks) && sameList (t .counters) (u .counters) && sameList (t .marks) (u .marks)
     && sameList (t .words) (u .words) && sameList (t .memory) (u .memory)
+
+abbrev pub sameMasked : Masked → Masked → Bool
+sameMasked x y = sameTables (x .tables) (y .tables) && sameList (x .masks) (y .masks)
 
 abbrev pub sameAccount : Account → Account → Bool
 sameAccount a c = eqb (a .requests) (c .requests) && eqb (a .fetch) (c .fetch) && eqb (a .«write_back») (c .«write_back») && eqb (a .update) (c .update)
@@ -173,7 +186,7 @@ pub record Session : Type 0 where
   pub setup : Setup
   -- the account at first
   pub account : Account
-  -- taken first, from fresh tables unless said: the run meets the tables and the account that they leave
+  -- taken first, from fresh tables and masks unless said: the run meets the tables, the masks and the account that they leave
   pub before : List Request
   pub requests : List Request
   -- what it leaves in a list of as many nines
@@ -188,7 +201,7 @@ pub record Session : Type 0 where
   pub lines : List Copy
   pub memory : List Cell
 
--- a run of one request on buffers as they are lent, a start, and a look at block `block` of processor `processor`
+-- a run of one request on buffers as they are lent, with the tables' own masks unless said, a start, and a look at block `block` of processor `processor`
 pub record Lent : Type 0 where
   pub setup : Setup
   pub tables : Tables
@@ -227,9 +240,15 @@ pub data Row : Type 0 where
   session : Session → Row
   -- a session from other tables than fresh ones: with these lines and cells
   sessionFrom : List Copy → List Cell → Session → Row
+  -- the same with these masks (document 02, P7), and the masks that it leaves
+  sessionMasks : List Copy → List Cell → List ℕ → Session → List ℕ → Row
   -- tables that an empty run meets, and its refusal
   tabled : Setup → Tables → ℕ → Row
   lent : Lent → Row
+  -- the same with these masks
+  lentMasks : Lent → List ℕ → Row
+  -- tables and masks, and those that starting leaves
+  begun : Setup → Masked → Masked → Row
   quote : Quote → Row
   split : Split → Row
   -- what the pricer checks before the first entry: block numbers, held marks and dirty marks of these lengths, n entries, m requests, and the refusal
@@ -270,6 +289,30 @@ payment cs i ds = sessionFrom (copiesOf9 0 cs (0 ∷ 5 ∷ 0 ∷ 0 ∷ [])) (cel
   memory = cell 37 5 ∷ cell 38 6 ∷ [];
 })
 
+-- lines on three caches, for the masks: block 1 in processor 0's, block 3 in those of 1 and 2, block 4, marked, in 2's
+abbrev pub threeCaches : Setup
+threeCaches = pricedBoard 3 2 2 5 5 3
+
+abbrev pub heldLines : List Copy
+heldLines = copy 1 1 3 0 (7 ∷ 8 ∷ []) ∷ copy 3 3 2 0 (5 ∷ 6 ∷ []) ∷ copy 4 4 5 1 (9 ∷ 2 ∷ []) ∷ copy 5 3 4 0 (5 ∷ 6 ∷ []) ∷ []
+
+abbrev pub heldMemory : List Cell
+heldMemory = cell 2 7 ∷ cell 3 8 ∷ cell 6 5 ∷ cell 7 6 ∷ cell 8 1 ∷ cell 9 1 ∷ []
+
+-- they are lent with these masks and this account: what refuses a run, and what refuses starting
+abbrev pub masksLent : List ℕ → Account → ℕ → ℕ → Row
+masksLent hs a n m = lentMasks (record {
+  setup = threeCaches;
+  account = a;
+  values = 9 ∷ [];
+  runRefusal = n;
+  startRefusal = m;
+  tables = holding threeCaches heldLines heldMemory;
+  processor = 1;
+  block = 3;
+  seen = 5 ∷ 6 ∷ [];
+}) hs
+
 -- a setup that n refuses, to a run and to starting, and that a look shows nothing of: with tables of N 2, L 2, p 2 and M 5 that hold block 3
 abbrev pub setupRefused : Setup → ℕ → Row
 setupRefused s n = lent (record {
@@ -286,31 +329,34 @@ setupRefused s n = lent (record {
 
 -- ---- when a row passes
 
-unfoldable pub sessionPasses : Tables → Session → Bool
-sessionPasses t w =
+-- from the tables and masks x; it leaves the masks hs
+unfoldable pub sessionPasses : Masked → Session → List ℕ → Bool
+sessionPasses x w hs =
     let s : Setup = w .setup in
-    let b : Outcome Tables = run (engine s) t (w .account) (w .before) (replicate (length (w .before)) 9) in
-    let o : Outcome Tables = run (engine s) (b .tables) (b .account) (w .requests) (replicate (length (w .requests)) 9) in
+    let b : Outcome Masked = runFrom (maskedEngine s) x (w .account) (w .before) [] in
+    let o : Outcome Masked = run (maskedEngine s) (b .tables) (b .account) (w .requests) (replicate (length (w .requests)) 9) in
     eqb (b .answer .taken) (length (w .before))
     && sameAnswer (o .answer) (w .answer) && sameList (o .values) (w .values)
     && sameAccount (o .account) (w .left) && sameAccount (w .left) (entered (b .account) (w .answer .taken) (w .cost))
-    && sameTables (o .tables) (holding s (w .lines) (w .memory))
-    && cond (w .changes) (not (sameTables (o .tables) (b .tables))) (sameTables (o .tables) (b .tables))
+    && sameMasked (o .tables) (masked (holding s (w .lines) (w .memory)) hs)
+    && cond (w .changes) (not (sameTables (o .tables .tables) (b .tables .tables))) (sameMasked (o .tables) (b .tables))
 
 -- an empty list: nothing changes, 0 taken
 unfoldable pub tabledPasses : Setup → Tables → ℕ → Bool
 tabledPasses s t n =
-    let o : Outcome Tables = run (engine s) t freshAccount [] [] in
-    sameAnswer (o .answer) (answered 0 n 0) && sameTables (o .tables) t && sameAccount (o .account) freshAccount && sameList (o .values) []
+    let o : Outcome Masked = run (maskedEngine s) (withMasks s t) freshAccount [] [] in
+    sameAnswer (o .answer) (answered 0 n 0) && sameMasked (o .tables) (withMasks s t) && sameAccount (o .account) freshAccount && sameList (o .values) []
 
-unfoldable pub lentPasses : Lent → Bool
-lentPasses w =
+-- with masks hs
+unfoldable pub lentPasses : Lent → List ℕ → Bool
+lentPasses w hs =
     let s : Setup = w .setup in
     let t : Tables = w .tables in
-    let o : Outcome Tables = run (engine s) t (w .account) (read 1 1 ∷ []) (w .values) in
+    let x : Masked = masked t hs in
+    let o : Outcome Masked = run (maskedEngine s) x (w .account) (read 1 1 ∷ []) (w .values) in
     eqb (o .answer .refusal) (w .runRefusal)
-    && cond (eqb (w .runRefusal) 0) true (sameTables (o .tables) t && sameAccount (o .account) (w .account) && sameList (o .values) (w .values) && sameAnswer (o .answer) (answered 0 (w .runRefusal) 0))
-    && eqb (startRefusal s (withMasks s t)) (w .startRefusal) && sameTables (started s (withMasks s t) .tables) (cond (eqb (w .startRefusal) 0) (fresh s) t)
+    && cond (eqb (w .runRefusal) 0) true (sameMasked (o .tables) x && sameAccount (o .account) (w .account) && sameList (o .values) (w .values) && sameAnswer (o .answer) (answered 0 (w .runRefusal) 0))
+    && eqb (startRefusal s x) (w .startRefusal) && sameMasked (started s x) (cond (eqb (w .startRefusal) 0) (freshMasked s) x)
     && sameList (looked s (t .blocks) (t .counters) (t .words) (w .processor) (record { 0 = w .block })) (w .seen)
 
 unfoldable pub sevens : Setup → Rival
@@ -325,7 +371,7 @@ quotePasses w =
 unfoldable pub splitPasses : Split → Bool
 splitPasses w =
     let s : Setup = w .setup in
-    let o : Outcome Tables = run (engine s) (fresh s) freshAccount (w .requests) (replicate (length (w .requests)) 9) in
+    let o : Outcome Masked = run (maskedEngine s) (freshMasked s) freshAccount (w .requests) (replicate (length (w .requests)) 9) in
     let c : Bill = costs s (noCopies s) (w .requests) (w .entries) in
     sameAnswer (o .answer) (answered (length (w .requests)) 0 0) && sameBill (billOf (o .account)) (w .spends)
     && sameNumbers (inNumbers (price s (sevens s) (w .requests) (w .entries))) (numbered 0 0 (cycles (w .pays)))
@@ -343,14 +389,17 @@ generatorPasses s seed x qs =
 
 abbrev pub takenPasses : Setup → ℕ → ℕ → Bool
 takenPasses s seed n =
-    let o : Outcome Tables = run (engine s) (fresh s) freshAccount (generated s seed (replicate n unwritten)) (replicate n 9) in
+    let o : Outcome Masked = run (maskedEngine s) (freshMasked s) freshAccount (generated s seed (replicate n unwritten)) (replicate n 9) in
     eqb (generateRefusal s seed n) 0 && sameAnswer (o .answer) (answered n 0 0)
 
 abbrev pub passes : Row → Bool
-passes (session w) = sessionPasses (fresh (w .setup)) w
-passes (sessionFrom cs ms w) = sessionPasses (holding (w .setup) cs ms) w
+passes (session w) = sessionPasses (freshMasked (w .setup)) w (holdersOf (w .setup) (w .lines))
+passes (sessionFrom cs ms w) = sessionPasses (masked (holding (w .setup) cs ms) (holdersOf (w .setup) cs)) w (holdersOf (w .setup) (w .lines))
+passes (sessionMasks cs ms hs w ks) = sessionPasses (masked (holding (w .setup) cs ms) hs) w ks
 passes (tabled s t n) = tabledPasses s t n
-passes (lent w) = lentPasses w
+passes (lent w) = lentPasses w (masksOf (w .setup) (w .tables))
+passes (lentMasks w hs) = lentPasses w hs
+passes (begun s x y) = eqb (startRefusal s x) 0 && sameMasked (started s x) y
 passes (quote w) = quotePasses w
 passes (split w) = splitPasses w
 passes (checked s b h k n m x) = checkedPasses s (rival (replicate b 7) (replicate h 7) (replicate k 7)) n m x
@@ -2693,4 +2742,158 @@ rows =
       pays = cost 5 0 1;
       sum = 6;
     })
+    -- ---- document 02, P7
+    -- true masks: block 1 is processor 0's, block 3 that of 1 and 2, block 4 is 2's
+    ∷ masksLent (0 ∷ 1 ∷ 0 ∷ 6 ∷ 4 ∷ []) freshAccount 0 0
+    -- 20: a bit is missing; a look is lent no masks, and starting finds none false
+    ∷ masksLent (0 ∷ 1 ∷ 0 ∷ 2 ∷ 4 ∷ []) freshAccount 20 0
+    -- 20: every bit of a held block is missing
+    ∷ masksLent (0 ∷ 0 ∷ 0 ∷ 6 ∷ 4 ∷ []) freshAccount 20 0
+    -- 20: a bit of a processor that holds another block of the line
+    ∷ masksLent (0 ∷ 1 ∷ 0 ∷ 7 ∷ 4 ∷ []) freshAccount 20 0
+    -- 20: a bit of a processor whose line is empty
+    ∷ masksLent (0 ∷ 1 ∷ 0 ∷ 6 ∷ 6 ∷ []) freshAccount 20 0
+    -- 20: a bit at N
+    ∷ masksLent (0 ∷ 1 ∷ 0 ∷ 14 ∷ 4 ∷ []) freshAccount 20 0
+    -- 20: the last bit of the last byte
+    ∷ masksLent (0 ∷ 1 ∷ 0 ∷ 6 ∷ 132 ∷ []) freshAccount 20 0
+    -- 20: a bit for a block that nobody holds
+    ∷ masksLent (0 ∷ 1 ∷ 4 ∷ 6 ∷ 4 ∷ []) freshAccount 20 0
+    -- 20: a bit for block 0, whose number empty lines show
+    ∷ masksLent (1 ∷ 1 ∷ 0 ∷ 6 ∷ 4 ∷ []) freshAccount 20 0
+    -- 20: the masks of two blocks in each other's place
+    ∷ masksLent (0 ∷ 1 ∷ 0 ∷ 4 ∷ 6 ∷ []) freshAccount 20 0
+    -- 2: a mask too few
+    ∷ masksLent (0 ∷ 1 ∷ 0 ∷ 6 ∷ []) freshAccount 2 2
+    -- 2: a mask too many
+    ∷ masksLent (0 ∷ 1 ∷ 0 ∷ 6 ∷ 4 ∷ 0 ∷ []) freshAccount 2 2
+    -- 20, by a false mask, before 21
+    ∷ masksLent (0 ∷ 1 ∷ 0 ∷ 4 ∷ 4 ∷ []) (account 1 6 0 0) 20 0
+    -- 21 with true masks
+    ∷ masksLent (0 ∷ 1 ∷ 0 ∷ 6 ∷ 4 ∷ []) (account 1 6 0 0) 21 0
+    -- 2, by the masks, before 20 by a counter over f
+    ∷ lentMasks (record {
+      setup = threeCaches;
+      account = freshAccount;
+      values = 9 ∷ [];
+      runRefusal = 2;
+      startRefusal = 2;
+      tables = holding threeCaches (copy 3 3 6 0 (5 ∷ 6 ∷ []) ∷ []) (cell 6 5 ∷ cell 7 6 ∷ []);
+      processor = 1;
+      block = 3;
+      seen = 5 ∷ 6 ∷ [];
+    }) (0 ∷ 0 ∷ 0 ∷ 2 ∷ 0 ∷ 0 ∷ [])
+    -- 10 before 2 by the masks
+    ∷ lentMasks (record {
+      setup = pricedBoard 3 2 2 5 33 3;
+      account = freshAccount;
+      values = 9 ∷ [];
+      runRefusal = 10;
+      startRefusal = 10;
+      tables = holding threeCaches heldLines heldMemory;
+      processor = 1;
+      block = 3;
+      seen = [];
+    }) (0 ∷ 1 ∷ 0 ∷ 6 ∷ [])
+    -- starting on old contents and false masks: every mask is 0
+    ∷ begun threeCaches (masked (holding threeCaches heldLines heldMemory) (255 ∷ 1 ∷ 4 ∷ 7 ∷ 128 ∷ []))
+    (masked (tables (0 ∷ 0 ∷ 0 ∷ 0 ∷ 0 ∷ 0 ∷ []) (0 ∷ 0 ∷ 0 ∷ 0 ∷ 0 ∷ 0 ∷ []) (0 ∷ 0 ∷ 0 ∷ 0 ∷ 0 ∷ 0 ∷ []) (0 ∷ 0 ∷ 0 ∷ 0 ∷ 0 ∷ 0 ∷ 0 ∷ 0 ∷ 0 ∷ 0 ∷ 0 ∷ 0 ∷ []) (0 ∷ 0 ∷ 0 ∷ 0 ∷ 0 ∷ 0 ∷ 0 ∷ 0 ∷ 0 ∷ 0 ∷ [])) (0 ∷ 0 ∷ 0 ∷ 0 ∷ 0 ∷ []))
+    -- a miss: the bit of the new holder comes, the old owner's stays; a request that is refused after it changes no mask
+    ∷ sessionMasks heldLines heldMemory (0 ∷ 1 ∷ 0 ∷ 6 ∷ 4 ∷ []) (record {
+      setup = threeCaches;
+      account = account 0 0 0 0;
+      before = [];
+      requests = read 1 9 ∷ clear 3 ∷ [];
+      values = 2 ∷ 9 ∷ [];
+      answer = answered 1 3 1;
+      cost = cost 5 0 0;
+      left = account 1 5 0 0;
+      changes = true;
+      lines = copy 1 1 3 0 (7 ∷ 8 ∷ []) ∷ copy 2 4 5 0 (9 ∷ 2 ∷ []) ∷ copy 3 3 2 0 (5 ∷ 6 ∷ []) ∷ copy 4 4 5 0 (9 ∷ 2 ∷ []) ∷ copy 5 3 4 0 (5 ∷ 6 ∷ []) ∷ [];
+      memory = cell 2 7 ∷ cell 3 8 ∷ cell 6 5 ∷ cell 7 6 ∷ cell 8 9 ∷ cell 9 2 ∷ [];
+    }) (0 ∷ 1 ∷ 0 ∷ 6 ∷ 6 ∷ [])
+    -- a block in the way leaves, an unmarked one and a marked one: its bit goes, and the new block's comes
+    ∷ sessionMasks heldLines heldMemory (0 ∷ 1 ∷ 0 ∷ 6 ∷ 4 ∷ []) (record {
+      setup = threeCaches;
+      account = account 0 0 0 0;
+      before = [];
+      requests = read 2 2 ∷ read 2 5 ∷ [];
+      values = 7 ∷ 0 ∷ [];
+      answer = answered 2 0 0;
+      cost = cost 10 3 0;
+      left = account 2 10 3 0;
+      changes = true;
+      lines = copy 1 1 3 0 (7 ∷ 8 ∷ []) ∷ copy 3 3 2 0 (5 ∷ 6 ∷ []) ∷ copy 4 2 5 0 (0 ∷ 0 ∷ []) ∷ copy 5 1 5 0 (7 ∷ 8 ∷ []) ∷ [];
+      memory = cell 2 7 ∷ cell 3 8 ∷ cell 6 5 ∷ cell 7 6 ∷ cell 8 9 ∷ cell 9 2 ∷ [];
+    }) (0 ∷ 5 ∷ 4 ∷ 2 ∷ 0 ∷ [])
+    -- a broadcast that empties no line changes no mask
+    ∷ sessionMasks heldLines heldMemory (0 ∷ 1 ∷ 0 ∷ 6 ∷ 4 ∷ []) (record {
+      setup = threeCaches;
+      account = account 0 0 0 0;
+      before = [];
+      requests = write 2 6 9 ∷ [];
+      values = 9 ∷ [];
+      answer = answered 1 0 0;
+      cost = cost 0 0 1;
+      left = account 1 0 0 1;
+      changes = true;
+      lines = copy 1 1 3 0 (7 ∷ 8 ∷ []) ∷ copy 3 3 1 0 (9 ∷ 6 ∷ []) ∷ copy 4 4 5 1 (9 ∷ 2 ∷ []) ∷ copy 5 3 5 0 (9 ∷ 6 ∷ []) ∷ [];
+      memory = cell 2 7 ∷ cell 3 8 ∷ cell 6 9 ∷ cell 7 6 ∷ cell 8 1 ∷ cell 9 1 ∷ [];
+    }) (0 ∷ 1 ∷ 0 ∷ 6 ∷ 4 ∷ [])
+    -- the next one empties the payer's line, and its bit goes
+    ∷ sessionMasks heldLines heldMemory (0 ∷ 1 ∷ 0 ∷ 6 ∷ 4 ∷ []) (record {
+      setup = threeCaches;
+      account = account 0 0 0 0;
+      before = [];
+      requests = write 2 6 9 ∷ write 2 7 3 ∷ [];
+      values = 9 ∷ 3 ∷ [];
+      answer = answered 2 0 0;
+      cost = cost 0 0 2;
+      left = account 2 0 0 2;
+      changes = true;
+      lines = copy 1 1 3 0 (7 ∷ 8 ∷ []) ∷ copy 4 4 5 1 (9 ∷ 2 ∷ []) ∷ copy 5 3 5 0 (9 ∷ 3 ∷ []) ∷ [];
+      memory = cell 2 7 ∷ cell 3 8 ∷ cell 6 9 ∷ cell 7 3 ∷ cell 8 1 ∷ cell 9 1 ∷ [];
+    }) (0 ∷ 1 ∷ 0 ∷ 4 ∷ 4 ∷ [])
+    -- a clear: its bits go from every mask, and no other's
+    ∷ sessionMasks heldLines heldMemory (0 ∷ 1 ∷ 0 ∷ 6 ∷ 4 ∷ []) (record {
+      setup = threeCaches;
+      account = account 0 0 0 0;
+      before = [];
+      requests = clear 2 ∷ [];
+      values = 0 ∷ [];
+      answer = answered 1 0 0;
+      cost = cost 0 3 0;
+      left = account 1 0 3 0;
+      changes = true;
+      lines = copy 1 1 3 0 (7 ∷ 8 ∷ []) ∷ copy 3 3 2 0 (5 ∷ 6 ∷ []) ∷ [];
+      memory = cell 2 7 ∷ cell 3 8 ∷ cell 6 5 ∷ cell 7 6 ∷ cell 8 9 ∷ cell 9 2 ∷ [];
+    }) (0 ∷ 1 ∷ 0 ∷ 2 ∷ 0 ∷ [])
+    -- from fresh tables and masks
+    ∷ sessionMasks [] [] (0 ∷ 0 ∷ 0 ∷ 0 ∷ 0 ∷ []) (record {
+      setup = threeCaches;
+      account = account 0 0 0 0;
+      before = [];
+      requests = read 1 7 ∷ write 2 6 9 ∷ [];
+      values = 0 ∷ 9 ∷ [];
+      answer = answered 2 0 0;
+      cost = cost 10 0 1;
+      left = account 2 10 0 1;
+      changes = true;
+      lines = copy 3 3 4 0 (9 ∷ 0 ∷ []) ∷ copy 5 3 5 0 (9 ∷ 0 ∷ []) ∷ [];
+      memory = cell 6 9 ∷ [];
+    }) (0 ∷ 0 ∷ 0 ∷ 6 ∷ 0 ∷ [])
+    -- N 8: all eight bits; the last one goes as its line becomes empty, and comes for another block
+    ∷ sessionMasks (copy 1 3 3 0 (4 ∷ []) ∷ copy 3 3 3 0 (4 ∷ []) ∷ copy 5 3 3 0 (4 ∷ []) ∷ copy 7 3 3 0 (4 ∷ []) ∷ copy 9 3 3 0 (4 ∷ []) ∷ copy 11 3 3 0 (4 ∷ []) ∷ copy 13 3 2 0 (4 ∷ []) ∷ copy 15 3 1 0 (4 ∷ []) ∷ []) (cell 3 4 ∷ []) (0 ∷ 0 ∷ 0 ∷ 255 ∷ 0 ∷ []) (record {
+      setup = pricedBoard 8 2 1 5 3 2;
+      account = account 0 0 0 0;
+      before = [];
+      requests = write 5 3 6 ∷ read 7 1 ∷ [];
+      values = 6 ∷ 0 ∷ [];
+      answer = answered 2 0 0;
+      cost = cost 3 0 1;
+      left = account 2 3 0 1;
+      changes = true;
+      lines = copy 1 3 3 0 (6 ∷ []) ∷ copy 3 3 3 0 (6 ∷ []) ∷ copy 5 3 3 0 (6 ∷ []) ∷ copy 7 3 3 0 (6 ∷ []) ∷ copy 9 3 3 0 (6 ∷ []) ∷ copy 11 3 3 0 (6 ∷ []) ∷ copy 13 3 2 0 (6 ∷ []) ∷ copy 15 1 3 0 (0 ∷ []) ∷ [];
+      memory = cell 3 6 ∷ [];
+    }) (0 ∷ 128 ∷ 0 ∷ 127 ∷ 0 ∷ [])
     ∷ []

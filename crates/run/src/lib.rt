@@ -4,9 +4,9 @@ use protocol_types::Request;
 use protocol_types::RunAnswer;
 use protocol_types::Setup;
 ghost use mathlib.Core.Path.{_≡_};
-ghost use Rattle.protocol.specs.Lent.{before, after};
+ghost use Rattle.protocol.specs.Lent.{maskedBefore, maskedAfter};
 ghost use Rattle.protocol.specs.Engines.{run as ran};
-ghost use Rattle.protocol.specs.Runs.{engine};
+ghost use Rattle.protocol.specs.Runs.{maskedEngine};
 ghost use Rattle.run_progress.specs.Progress.{outcome};
 
 // A run: the requests in turn, to the first refused one.
@@ -17,12 +17,13 @@ pub fn run(
     marks: &mut [u32],
     words: &mut [u32],
     memory: &mut [u32],
+    masks: &mut [u8],
     account: &mut Account,
     requests: &[Request],
     values: &mut [u32],
 ) -> RunAnswer
-    ensures { λ r. ⌜ outcome r (after blocks counters marks words memory) (now (account .exit)) (now (values .exit))
-        ≡ ran (engine setup) (before blocks counters marks words memory) (now (account .entry)) (now (requests .entry)) (now (values .entry)) ⌝ }
+    ensures { λ r. ⌜ outcome r (maskedAfter blocks counters marks words memory masks) (now (account .exit)) (now (values .exit))
+        ≡ ran (maskedEngine setup) (maskedBefore blocks counters marks words memory masks) (now (account .entry)) (now (requests .entry)) (now (values .entry)) ⌝ }
 {
     let mut p = run_steps::begin(
         setup,
@@ -31,6 +32,7 @@ pub fn run(
         &*marks,
         &*words,
         &*memory,
+        &*masks,
         &*values,
         *account,
         requests.len(),
@@ -43,6 +45,7 @@ pub fn run(
             marks,
             words,
             memory,
+            masks,
             values,
             p,
             requests[p.answer.taken],

@@ -1,7 +1,7 @@
--- What a run's checks tell, and that the engine serves every request on tables that it can use: so protocol's and run_progress' laws hold of it.
+-- What a run's checks tell, and that the engine serves every request on tables that it can use, with their true masks: so protocol's and run_progress' laws hold of it.
 -- Assumes nothing.
 use Prim.Native.Nat.{ℕ, _<_}
-use mathlib.Core.Path.{_≡_}
+use mathlib.Core.Path.{_≡_, refl}
 use mathlib.Core.List.{List}
 use native.Mathlib.Decide.{decLt}
 use native.Mathlib.Omega.{arith}
@@ -9,9 +9,10 @@ use lib.ListN.{List·getD-eq-default}
 use Rattle.protocol_types.specs.Refusals.{noRefusal}
 use Rattle.protocol_types.specs.Board.{Fits, slots}
 use Rattle.protocol.specs.Tables.{Tables, counter, block}
+use Rattle.protocol.specs.Masks.{Masked}
 use Rattle.protocol.specs.Soundness.{Sound}
 use Rattle.protocol_types.specs.Conditions.{Valid}
-use Rattle.protocol.specs.Runs.{runRefusal, engine}
+use Rattle.protocol.specs.Runs.{maskedRefusal, maskedEngine}
 use Rattle.protocol_types.specs.declared.Setup.{Setup}
 use Rattle.protocol_types.specs.declared.Account.{Account}
 use Rattle.protocol_types.proofs.Laws.{Same, same, apart, same?}
@@ -20,15 +21,19 @@ use Rattle.protocol.proofs.Checked.{passed-sound}
 use Rattle.protocol_types.proofs.Conditions.{request-passed}
 use Rattle.protocol.proofs.Requests.{bill-spent}
 use Rattle.protocol.proofs.Engines.{Serving}
-use Rattle.engine.specs.Usable.{Usable}
+use Rattle.engine.specs.Usable.{Usable, UsableMasked}
 use Rattle.engine.proofs.Usable.{usable-served}
-use Rattle.protocol.proofs.Runs.{run-checked}
+use Rattle.protocol.proofs.Masks.{masked-checked}
 use Rattle.run_progress.proofs.Laws.{Passed}
 
--- ---- sound tables name no block outside main memory
+-- ---- sound tables name no block outside main memory, and hold each in its proper line
 
 pub usable-sound : (s : Setup) → Fits s → (t : Tables) → Sound s t → Usable s t
-usable-sound s f t d = record { lengths = d .lengths; named = λ k. go k (decLt k (slots s)) (same? (counter t k) 0) }
+usable-sound s f t d = record {
+  lengths = d .lengths;
+  named = λ k. go k (decLt k (slots s)) (same? (counter t k) 0);
+  proper = λ k h. d .line k h .proper;
+}
   where
     go : (k : ℕ) → Dec (k < slots s) → Same (counter t k) 0 → block t k .0 < s .blocks
     go k (yes h) (same p q) = let z = d .line k h .no-block p in omega (arith, f .some-block)
@@ -37,17 +42,19 @@ usable-sound s f t d = record { lengths = d .lengths; named = λ k. go k (decLt 
 
 -- ---- what a refusal number 0 tells
 
-pub run-passed : (s : Setup) (t : Tables) (a : Account) (n : ℕ) (vs : List ℕ) → runRefusal s t a n vs ≡ noRefusal → Passed s (Usable s) t a n vs
-run-passed s t a n vs e =
-    let c = run-checked s t a n vs e in
-    let f = setup-fits s (c .setup) in
-    record { fits = f; good = usable-sound s f t (passed-sound s f t (c .sizes) (c .tables)); values = c .values; account = c .account }
+pub run-passed : (s : Setup) (x : Masked) (a : Account) (n : ℕ) (vs : List ℕ) → maskedRefusal s x a n vs ≡ noRefusal → Passed s (UsableMasked s) x a n vs
+run-passed s x a n vs e =
+    let c = masked-checked s x a n vs e in
+    let d = c .tables in
+    let f = setup-fits s (d .setup) in
+    let u = usable-sound s f (x .tables) (passed-sound s f (x .tables) (d .sizes) (d .tables)) in
+    record { fits = f; good = record { tables = u; masks = c .masks }; values = d .values; account = d .account }
 
 -- ---- each request is served
 
-pub serving : (s : Setup) → Fits s → Serving s (engine s) (Usable s) (Valid s)
+pub serving : (s : Setup) → Fits s → Serving s (maskedEngine s) (UsableMasked s) (Valid s)
 serving s f = record {
   passed = request-passed s;
-  kept = λ t q u v. usable-served s f t q v u;
-  small = λ t q. bill-spent s f t q;
+  kept = λ x q u v. record { tables = usable-served s f (x .tables) q v (u .tables); masks = refl };
+  small = λ x q. bill-spent s f (x .tables) q;
 }

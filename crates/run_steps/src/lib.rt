@@ -4,9 +4,9 @@ use protocol_types::Request;
 use protocol_types::Setup;
 use run_progress::Progress;
 ghost use mathlib.Core.Path.{_≡_};
-ghost use Rattle.protocol.specs.Lent.{lent, before, after};
-ghost use Rattle.protocol.specs.Runs.{runRefusal, engine};
-ghost use Rattle.engine.specs.Usable.{Usable};
+ghost use Rattle.protocol.specs.Lent.{lentMasked, maskedBefore, maskedAfter};
+ghost use Rattle.protocol.specs.Runs.{maskedRefusal, maskedEngine};
+ghost use Rattle.engine.specs.Usable.{UsableMasked};
 ghost use Rattle.run_progress.specs.Progress.{begun, runStage, Ready, turned};
 
 // The refusal number of a run of `count` requests before its first one, or 0.
@@ -17,11 +17,12 @@ fn run_refusal<'a>(
     marks: &'a [u32],
     words: &'a [u32],
     memory: &'a [u32],
+    masks: &'a [u8],
     values: &'a [u32],
     account: Account,
     count: usize,
 ) -> u32
-    ensures { λ r. ⌜ r ≡ runRefusal setup (before blocks counters marks words memory) account count (now (values .entry)) ⌝ }
+    ensures { λ r. ⌜ r ≡ maskedRefusal setup (maskedBefore blocks counters marks words memory masks) account count (now (values .entry)) ⌝ }
 {
     let refusal = setup.refusal();
     if refusal != protocol_types::NO_REFUSAL {
@@ -34,13 +35,14 @@ fn run_refusal<'a>(
         marks.len(),
         words.len(),
         memory.len(),
+        masks.len(),
     ) {
         return protocol_types::WRONG_LENGTH;
     }
     if values.len() != count {
         return protocol_types::WRONG_LENGTH;
     }
-    if !engine_soundness::is_sound(setup, blocks, counters, marks, words, memory) {
+    if !engine_soundness::is_sound(setup, blocks, counters, marks, words, memory, masks) {
         return protocol_types::UNSOUND_TABLES;
     }
     if !run_progress::is_possible(setup, account) {
@@ -57,11 +59,12 @@ pub fn begin<'a>(
     marks: &'a [u32],
     words: &'a [u32],
     memory: &'a [u32],
+    masks: &'a [u8],
     values: &'a [u32],
     account: Account,
     count: usize,
 ) -> Progress
-    ensures { λ r. ⌜ r ≡ begun (runRefusal setup (before blocks counters marks words memory) account count (now (values .entry))) account count ⌝ }
+    ensures { λ r. ⌜ r ≡ begun (maskedRefusal setup (maskedBefore blocks counters marks words memory masks) account count (now (values .entry))) account count ⌝ }
 {
     let refusal = run_refusal(
         setup,
@@ -70,6 +73,7 @@ pub fn begin<'a>(
         marks,
         words,
         memory,
+        masks,
         values,
         account,
         count,
@@ -85,13 +89,14 @@ pub fn turn<'a>(
     marks: &'a mut [u32],
     words: &'a mut [u32],
     memory: &'a mut [u32],
+    masks: &'a mut [u8],
     values: &'a mut [u32],
     p: Progress,
     request: Request,
 ) -> Progress
-    requires { ⌜ Ready setup (Usable setup) (runStage p (lent blocks counters marks words memory) (now values)) ⌝ }
-    ensures { λ r. ⌜ runStage r (after blocks counters marks words memory) (now (values .exit))
-        ≡ turned (engine setup) (runStage p (before blocks counters marks words memory) (now (values .entry))) request ⌝ }
+    requires { ⌜ Ready setup (UsableMasked setup) (runStage p (lentMasked blocks counters marks words memory masks) (now values)) ⌝ }
+    ensures { λ r. ⌜ runStage r (maskedAfter blocks counters marks words memory masks) (now (values .exit))
+        ≡ turned (maskedEngine setup) (runStage p (maskedBefore blocks counters marks words memory masks) (now (values .entry))) request ⌝ }
 {
     let account = p.account;
     let taken = p.answer.taken;
@@ -100,7 +105,7 @@ pub fn turn<'a>(
     if refusal != protocol_types::NO_REFUSAL {
         return run_progress::stop(p, refusal);
     }
-    let served = engine::serve(setup, request, blocks, counters, marks, words, memory);
+    let served = engine::serve(setup, request, blocks, counters, marks, words, memory, masks);
     let next = taken + 1;
     values[taken] = served.value;
     let more = served.bill;

@@ -1,18 +1,21 @@
 -- Small facts of a trace as it is fed: a count goes on (`countable-counted`), the end of the input, and the start (the cases of starting).
 use Prim.Native.Nat.{ℕ}
 use mathlib.Core.Path.{_≡_, refl, sym, ap, _∙_}
-use mathlib.Core.Bool.{Bool, true, false}
+use mathlib.Core.Bool.{Bool, true, false, and-true}
 use mathlib.Core.List.{List}
 use native.Mathlib.Omega.{arith}
 use lib.Dec.{eqb}
 use borrow.Author.Tests.{eq-eqb, ne-eqb}
+use Rattle.protocol_types.specs.Lists.{zeros}
 use Rattle.protocol_types.specs.Refusals.{noRefusal}
 use Rattle.protocol_types.specs.Board.{slots}
 use Rattle.protocol.specs.Tables.{Tables, sized, fresh}
+use Rattle.protocol.specs.Masks.{Masked, masked, masksOf, withMasks, freshMasked, sizedMasked}
 use Rattle.protocol.specs.Accounts.{freshAccount}
 use Rattle.protocol.specs.Runs.{startRefusal, started}
 use Rattle.protocol_types.proofs.Laws.{choice, at-zeros}
 use Rattle.protocol.proofs.Lengths.{sized-fresh}
+use Rattle.protocol.proofs.Masks.{fresh-masked}
 use Rattle.protocol.proofs.Accounts.{spent-none}
 use Rattle.engine.specs.Usable.{Usable}
 use Rattle.engine_tables.proofs.Tests.{start-unsized, start-filled}
@@ -75,7 +78,11 @@ finished-within x r y d z p e = simp (e, eq-eqb _ _ d, ne-eqb _ _ z, p)
 
 pub usable-fresh : Usable traceSetup (fresh traceSetup)
 unfolding fresh traceSetup
-usable-fresh = record { lengths = sized-fresh traceSetup; named = λ k. omega (arith, at-zeros (slots traceSetup) k) }
+usable-fresh = record {
+  lengths = sized-fresh traceSetup;
+  named = λ k. omega (arith, at-zeros (slots traceSetup) k);
+  proper = λ k h p. absurd (omega (arith, at-zeros (slots traceSetup) k, p));
+}
 
 countable-fresh : Countable (countStage freshCount (fresh traceSetup))
 countable-fresh = record { account = spent-none traceSetup; line-number = omega arith; tables = usable-fresh }
@@ -88,26 +95,40 @@ module _ (c : Count) (t : Tables) (p : c ≡ freshCount) (q : t ≡ fresh traceS
   pub countable-first : Countable (countStage c t)
   countable-first = rw first-stage countable-fresh
 
--- tables that are not started are of the wrong lengths
-pub not-started : (t : Tables) (bs : List ℕ) (r : ℕ) (u : Tables) → r ≡ startRefusal traceSetup t → u ≡ started traceSetup t → (r ≡ noRefusal → ⊥)
-    → reporting (record { account = freshAccount; refusal = r; line = 0 }) u ≡ endedOn t bs
-unfolding endedOn
-not-started t bs r u e f d = go (sized traceSetup t) refl
-  where
-    go : (c : Bool) → sized traceSetup t ≡ c → reporting (record { account = freshAccount; refusal = r; line = 0 }) u ≡ endedOn t bs
-    go true z = absurd (d (e ∙ sym (start-filled traceSetup t trace-passes z .0)))
-    go false z =
-        let w = start-unsized traceSetup t trace-passes z in
-        simp (e ∙ sym (w .0), f ∙ sym (w .1), z)
+-- what starting leaves: fresh tables with true masks
+pub fresh-with-masks : (x : Masked) → x ≡ freshMasked traceSetup → (x .tables ≡ fresh traceSetup) × (x .masks ≡ masksOf traceSetup (x .tables))
+fresh-with-masks x e =
+    let f : x ≡ withMasks traceSetup (fresh traceSetup) = e ∙ fresh-masked traceSetup in
+    (ap (λ (y : Masked). y .tables) f, rw f refl)
 
--- tables that are started
-pub now-started : (t : Tables) (r : ℕ) (u : Tables) → r ≡ startRefusal traceSetup t → u ≡ started traceSetup t → r ≡ noRefusal
-    → (sized traceSetup t ≡ true) × (u ≡ fresh traceSetup)
-now-started t r u e f d = go (sized traceSetup t) refl
-  where
-    go : (c : Bool) → sized traceSetup t ≡ c → (sized traceSetup t ≡ true) × (u ≡ fresh traceSetup)
-    go true z = (z, f ∙ sym (start-filled traceSetup t trace-passes z .1))
-    go false z = absurd (omega (arith, start-unsized traceSetup t trace-passes z .0 ∙ sym e ∙ d))
+-- the tables t, with masks that are all 0
+abbrev zeroMasked : Tables → Masked
+zeroMasked t = masked t (zeros (traceSetup .blocks))
+
+-- they are started: the refusal is r, and u is left
+module _ (t : Tables) (r : ℕ) (u : Masked) (e : r ≡ startRefusal traceSetup (zeroMasked t)) (f : u ≡ started traceSetup (zeroMasked t)) where
+  sized-tables : sizedMasked traceSetup (zeroMasked t) ≡ sized traceSetup t
+  unfolding sizedMasked traceSetup
+  sized-tables = and-true (sized traceSetup t)
+
+  -- tables that are not started are of the wrong lengths
+  pub not-started : (bs : List ℕ) → (r ≡ noRefusal → ⊥) → reporting (record { account = freshAccount; refusal = r; line = 0 }) (u .tables) ≡ endedOn t bs
+  unfolding endedOn
+  not-started bs d = go (sized traceSetup t) refl
+    where
+      go : (c : Bool) → sized traceSetup t ≡ c → reporting (record { account = freshAccount; refusal = r; line = 0 }) (u .tables) ≡ endedOn t bs
+      go true z = absurd (d (e ∙ sym (start-filled traceSetup (zeroMasked t) trace-passes (sized-tables ∙ z) .0)))
+      go false z =
+          let w = start-unsized traceSetup (zeroMasked t) trace-passes (sized-tables ∙ z) in
+          simp (e ∙ sym (w .0), f ∙ sym (w .1), z)
+
+  -- tables that are started
+  pub now-started : r ≡ noRefusal → (sized traceSetup t ≡ true) × (u ≡ freshMasked traceSetup)
+  now-started d = go (sized traceSetup t) refl
+    where
+      go : (c : Bool) → sized traceSetup t ≡ c → (sized traceSetup t ≡ true) × (u ≡ freshMasked traceSetup)
+      go true z = (z, f ∙ sym (start-filled traceSetup (zeroMasked t) trace-passes (sized-tables ∙ z) .1))
+      go false z = absurd (omega (arith, start-unsized traceSetup (zeroMasked t) trace-passes (sized-tables ∙ z) .0 ∙ sym e ∙ d))
 
 pub ended-started : (t : Tables) (bs : List ℕ) → sized traceSetup t ≡ true → endedOn t bs ≡ ended bs
 unfolding endedOn

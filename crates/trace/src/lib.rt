@@ -8,10 +8,14 @@ ghost use mathlib.Core.Path.{_≡_};
 ghost use Prim.Native.Nat.{_≤_};
 ghost use lib.ListN.{length, drop};
 ghost use Rattle.protocol.specs.Tables.{fresh};
-ghost use Rattle.protocol.specs.Lent.{lent, before, after};
+ghost use Rattle.protocol.specs.Lent.{lent, before, after, TrueMasks};
+ghost use Rattle.protocol.specs.Masks.{masksOf};
 ghost use Rattle.trace_lines.specs.Trace.{traceSetup, ended, endedOn};
 ghost use Rattle.trace_count.specs.Counting.{countStage, Countable, AtStart};
 ghost use Rattle.trace.specs.Feeding.{fed, finished, reporting};
+
+// The length of the masks: one for each block of the setup.
+pub const BLOCKS: usize = 64;
 
 // More bytes of a trace, from the start of a line at `from` on. A line that lies whole there is parsed where it lies; of one that is cut the bytes are kept as a few numbers.
 fn feed_lines(
@@ -23,12 +27,15 @@ fn feed_lines(
     marks: &mut [u32],
     words: &mut [u32],
     memory: &mut [u32],
+    masks: &mut [u8],
 ) -> Count
     requires { ⌜ from ≤ length (now bytes) ⌝ }
     requires { ⌜ AtStart count ⌝ }
     requires { ⌜ Countable (countStage count (lent blocks counters marks words memory)) ⌝ }
+    requires { ⌜ TrueMasks traceSetup (lent blocks counters marks words memory) masks ⌝ }
     ensures { λ r. ⌜ countStage r (after blocks counters marks words memory)
         ≡ fed (countStage count (before blocks counters marks words memory)) (drop from (now (bytes .entry))) ⌝ }
+    ensures { λ _. ⌜ now (masks .exit) ≡ masksOf traceSetup (after blocks counters marks words memory) ⌝ }
 {
     let mut so_far = count;
     let mut i = from;
@@ -40,7 +47,16 @@ fn feed_lines(
             break;
         }
         let parsed = first.parsed;
-        so_far = end_line(so_far, parsed, blocks, counters, marks, words, memory);
+        so_far = end_line(
+            so_far,
+            parsed,
+            blocks,
+            counters,
+            marks,
+            words,
+            memory,
+            masks,
+        );
         if so_far.refusal != protocol_types::NO_REFUSAL {
             return so_far;
         }
@@ -58,10 +74,13 @@ pub fn feed(
     marks: &mut [u32],
     words: &mut [u32],
     memory: &mut [u32],
+    masks: &mut [u8],
 ) -> Count
     requires { ⌜ Countable (countStage count (lent blocks counters marks words memory)) ⌝ }
+    requires { ⌜ TrueMasks traceSetup (lent blocks counters marks words memory) masks ⌝ }
     ensures { λ r. ⌜ countStage r (after blocks counters marks words memory)
         ≡ fed (countStage count (before blocks counters marks words memory)) (now (bytes .entry)) ⌝ }
+    ensures { λ _. ⌜ now (masks .exit) ≡ masksOf traceSetup (after blocks counters marks words memory) ⌝ }
 {
     if count.refusal != protocol_types::NO_REFUSAL {
         return count;
@@ -80,11 +99,22 @@ pub fn feed(
         marks,
         words,
         memory,
+        masks,
     );
     if next.refusal != protocol_types::NO_REFUSAL {
         return next;
     }
-    feed_lines(next, bytes, end + 1, blocks, counters, marks, words, memory)
+    feed_lines(
+        next,
+        bytes,
+        end + 1,
+        blocks,
+        counters,
+        marks,
+        words,
+        memory,
+        masks,
+    )
 }
 
 // The end of the input: a last line may lack its newline.
@@ -95,10 +125,13 @@ pub fn finish(
     marks: &mut [u32],
     words: &mut [u32],
     memory: &mut [u32],
+    masks: &mut [u8],
 ) -> Report
     requires { ⌜ Countable (countStage count (lent blocks counters marks words memory)) ⌝ }
+    requires { ⌜ TrueMasks traceSetup (lent blocks counters marks words memory) masks ⌝ }
     ensures { λ r. ⌜ reporting r (after blocks counters marks words memory)
         ≡ finished (countStage count (before blocks counters marks words memory)) ⌝ }
+    ensures { λ _. ⌜ now (masks .exit) ≡ masksOf traceSetup (after blocks counters marks words memory) ⌝ }
 {
     if count.refusal != protocol_types::NO_REFUSAL {
         return count.reported();
@@ -107,7 +140,16 @@ pub fn finish(
     if line.width == 0 {
         return count.reported();
     }
-    let last = end_line(count, line.parsed(), blocks, counters, marks, words, memory);
+    let last = end_line(
+        count,
+        line.parsed(),
+        blocks,
+        counters,
+        marks,
+        words,
+        memory,
+        masks,
+    );
     last.reported()
 }
 
@@ -119,15 +161,26 @@ fn count_fresh(
     marks: &mut [u32],
     words: &mut [u32],
     memory: &mut [u32],
+    masks: &mut [u8],
 ) -> Report
     requires { ⌜ lent blocks counters marks words memory ≡ fresh traceSetup ⌝ }
+    requires { ⌜ TrueMasks traceSetup (lent blocks counters marks words memory) masks ⌝ }
     ensures { λ r. ⌜ reporting r (after blocks counters marks words memory) ≡ ended (now (bytes .entry)) ⌝ }
 {
-    let count = feed(Count::new(), bytes, blocks, counters, marks, words, memory);
-    finish(count, blocks, counters, marks, words, memory)
+    let count = feed(
+        Count::new(),
+        bytes,
+        blocks,
+        counters,
+        marks,
+        words,
+        memory,
+        masks,
+    );
+    finish(count, blocks, counters, marks, words, memory, masks)
 }
 
-// A whole trace. The tables are started here, whatever they held; tables of the wrong lengths are refused by 2, and stay as they are.
+// A whole trace. The tables are started here, whatever they held, with masks that live only here; tables of the wrong lengths are refused by 2, and stay as they are.
 pub fn count_trace(
     bytes: &[u8],
     blocks: &mut [u32],
@@ -139,7 +192,16 @@ pub fn count_trace(
     ensures { λ r. ⌜ reporting r (after blocks counters marks words memory)
         ≡ endedOn (before blocks counters marks words memory) (now (bytes .entry)) ⌝ }
 {
-    let started = engine_tables::start(trace_setup(), blocks, counters, marks, words, memory);
+    let mut masks = [0u8; BLOCKS];
+    let started = engine_tables::start(
+        trace_setup(),
+        blocks,
+        counters,
+        marks,
+        words,
+        memory,
+        &mut masks,
+    );
     if started != protocol_types::NO_REFUSAL {
         return Report {
             account: Account {
@@ -152,5 +214,5 @@ pub fn count_trace(
             line: 0,
         };
     }
-    count_fresh(bytes, blocks, counters, marks, words, memory)
+    count_fresh(bytes, blocks, counters, marks, words, memory, &mut masks)
 }

@@ -1,7 +1,7 @@
 -- A trace's totals are those of one run of its requests from fresh tables. Line by line the trace and the run go through the same
 -- states: a line that 6 or 7 refuses ends the requests, and any other line is the next request, taken or refused by the run's own conditions.
 use Prim.Native.Nat.{ℕ, _+_}
-use mathlib.Core.Path.{_≡_, refl}
+use mathlib.Core.Path.{_≡_, refl, ap, _∙_}
 use mathlib.Core.Bool.{Bool, true, false, cond}
 use mathlib.Core.List.{List, [], _∷_, _++_}
 use lib.Dec.{eqb}
@@ -10,11 +10,13 @@ use borrow.Author.Tests.{eq-eqb}
 use Rattle.protocol_types.specs.Lists.{tail}
 use Rattle.protocol_types.specs.Refusals.{noRefusal, firstOf}
 use Rattle.protocol.specs.Tables.{Tables, fresh}
+use Rattle.protocol.specs.Masks.{freshMasked}
 use Rattle.protocol_types.specs.Conditions.{requestRefusal}
 use Rattle.protocol.specs.Accounts.{freshAccount}
 use Rattle.protocol.specs.Engines.{Outcome, runFrom, run, State}
-use Rattle.protocol.specs.Runs.{engine, opening}
+use Rattle.protocol.specs.Runs.{engine, maskedEngine, opening, maskedOutcome}
 use Rattle.protocol_types.specs.declared.Request.{Request}
+use Rattle.protocol.proofs.Masks.{fresh-run}
 use Rattle.competitive.proofs.Fresh.{sound-fresh}
 use Rattle.competitive.proofs.Lawful.{lawful, fresh-possible}
 use Rattle.trace_din.specs.Lines.{linesOf, parsed}
@@ -70,12 +72,17 @@ agrees (l ∷ ls) = λ w n vs. line-agrees w n (interpreted n (parsed l)) ls vs 
 -- ---- one run
 
 -- from fresh tables and a fresh account nothing is refused before the first request
-run-goes : (qs : List Request) (vs : List ℕ) → length vs ≡ length qs
+rules-go : (qs : List Request) (vs : List ℕ) → length vs ≡ length qs
     → run (engine traceSetup) (fresh traceSetup) freshAccount qs vs ≡ onFrom (opening traceSetup freshAccount) qs vs
 unfolding run
-run-goes qs vs e =
+rules-go qs vs e =
     let begins = lawful traceSetup trace-passes .checked (fresh traceSetup) freshAccount (length qs) vs (sound-fresh traceSetup) (fresh-possible traceSetup) in
     simp (begins, eq-eqb (length vs) (length qs) e)
+
+-- with fresh masks the same
+run-goes : (qs : List Request) (vs : List ℕ) → length vs ≡ length qs
+    → run (maskedEngine traceSetup) (freshMasked traceSetup) freshAccount qs vs ≡ maskedOutcome traceSetup (onFrom (opening traceSetup freshAccount) qs vs)
+run-goes qs vs e = fresh-run traceSetup freshAccount qs vs ∙ ap (maskedOutcome traceSetup) (rules-go qs vs e)
 
 pub covered : (bs vs : List ℕ) → length vs ≡ length (traceRequests bs) → Covered bs vs
 unfolding report ended traceRequests formRefusalOf

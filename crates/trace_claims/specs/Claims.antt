@@ -4,10 +4,11 @@ use mathlib.Core.Path.{_≡_}
 use mathlib.Core.List.{List, [], _∷_}
 use lib.ListN.{length}
 use Rattle.protocol_types.specs.Refusals.{firstOf}
-use Rattle.protocol.specs.Tables.{Tables, fresh}
+use Rattle.protocol.specs.Tables.{fresh}
+use Rattle.protocol.specs.Masks.{Masked, freshMasked}
 use Rattle.protocol.specs.Accounts.{freshAccount, cycles, cyclesOf, billOf}
 use Rattle.protocol.specs.Engines.{Outcome, run, Run, takenAll, spent}
-use Rattle.protocol.specs.Runs.{engine}
+use Rattle.protocol.specs.Runs.{engine, maskedEngine}
 use Rattle.protocol.specs.Rival.{noCopies, Legal, costs}
 use Rattle.competitive.specs.Claims.{SplitBill}
 use Rattle.protocol_types.specs.declared.Request.{Request}
@@ -20,14 +21,14 @@ use Rattle.trace_claims.specs.Requests.{traceRequests, formRefusalOf}
 abbrev pub traceRun : List ℕ → List ℕ → Run Request
 traceRun bs vs = record { requests = traceRequests bs; values = vs }
 
--- from fresh tables and a fresh account
-abbrev pub traceOutcome : List ℕ → List ℕ → Outcome Tables
-traceOutcome bs vs = run (engine traceSetup) (fresh traceSetup) freshAccount (traceRequests bs) vs
+-- from fresh tables and masks and a fresh account
+abbrev pub traceOutcome : List ℕ → List ℕ → Outcome Masked
+traceOutcome bs vs = run (maskedEngine traceSetup) (freshMasked traceSetup) freshAccount (traceRequests bs) vs
 
--- the report's account and refusal are those of that run, or the refusal is the 6 or 7 that ends the requests
+-- a trace is lent no masks: its report's account and refusal are those of that run all the same, or the refusal is the 6 or 7 that ends the requests
 pub record Covered (bs vs : List ℕ) : Type 0 where
   pub account : report bs .account ≡ traceOutcome bs vs .account
-  pub tables : ended bs .tables ≡ traceOutcome bs vs .tables
+  pub tables : ended bs .tables ≡ traceOutcome bs vs .tables .tables
   pub refusal : report bs .refusal ≡ firstOf (traceOutcome bs vs .answer .refusal) (formRefusalOf bs)
 
 -- ---- demand 3

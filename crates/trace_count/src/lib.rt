@@ -10,7 +10,8 @@ use trace_lines::trace_setup;
 use trace_scan::Line;
 ghost use mathlib.Core.Path.{_≡_};
 ghost use Prim.Native.Nat.{_<_};
-ghost use Rattle.protocol.specs.Lent.{lent, before, after};
+ghost use Rattle.protocol.specs.Lent.{lent, before, after, TrueMasks};
+ghost use Rattle.protocol.specs.Masks.{masksOf};
 ghost use Rattle.protocol_types.specs.Conditions.{requestLimit};
 ghost use Rattle.protocol.specs.Accounts.{entered, Spent, billOf};
 ghost use Rattle.trace_lines.specs.Trace.{traceSetup};
@@ -113,10 +114,13 @@ fn take_request(
     marks: &mut [u32],
     words: &mut [u32],
     memory: &mut [u32],
+    masks: &mut [u8],
 ) -> Count
     requires { ⌜ Countable (countStage count (lent blocks counters marks words memory)) ⌝ }
+    requires { ⌜ TrueMasks traceSetup (lent blocks counters marks words memory) masks ⌝ }
     ensures { λ r. ⌜ countStage r (after blocks counters marks words memory)
         ≡ lineCounted (countStage count (before blocks counters marks words memory)) (Meaning.Asks request) ⌝ }
+    ensures { λ _. ⌜ now (masks .exit) ≡ masksOf traceSetup (after blocks counters marks words memory) ⌝ }
 {
     let account = count.account;
     let setup = trace_setup();
@@ -124,7 +128,16 @@ fn take_request(
     if refusal != protocol_types::NO_REFUSAL {
         return count.refuse_line(refusal);
     }
-    let done = engine::serve(setup, request, blocks, counters, marks, words, memory);
+    let done = engine::serve(
+        setup,
+        request,
+        blocks,
+        counters,
+        marks,
+        words,
+        memory,
+        masks,
+    );
     let bill = done.bill;
     Count {
         line: Line::new(),
@@ -143,10 +156,13 @@ pub fn end_line(
     marks: &mut [u32],
     words: &mut [u32],
     memory: &mut [u32],
+    masks: &mut [u8],
 ) -> Count
     requires { ⌜ Countable (countStage count (lent blocks counters marks words memory)) ⌝ }
+    requires { ⌜ TrueMasks traceSetup (lent blocks counters marks words memory) masks ⌝ }
     ensures { λ r. ⌜ countStage r (after blocks counters marks words memory)
         ≡ lineEnded (countStage count (before blocks counters marks words memory)) parsed ⌝ }
+    ensures { λ _. ⌜ now (masks .exit) ≡ masksOf traceSetup (after blocks counters marks words memory) ⌝ }
 {
     let meaning = interpret(count.line_number, parsed);
     match meaning {
@@ -160,6 +176,7 @@ pub fn end_line(
             marks,
             words,
             memory,
+            masks,
         ),
     }
 }

@@ -1,13 +1,15 @@
 // Reads a din trace on standard input and prints what it came to.
 ghost use mathlib.Core.Path.{_≡_};
 ghost use Rattle.protocol.specs.Tables.{fresh};
-ghost use Rattle.protocol.specs.Lent.{lent, before, after};
+ghost use Rattle.protocol.specs.Lent.{lent, before, after, TrueMasks};
+ghost use Rattle.protocol.specs.Masks.{masksOf};
 ghost use Rattle.trace_lines.specs.Trace.{traceSetup};
 ghost use Rattle.trace_count.specs.Counting.{countStage, Countable};
 ghost use Rattle.trace_report.specs.Reading.{readOf, reading, afterRead, Took, Reached, Reported, Withheld, Delivered};
 use libc::STDERR_FILENO;
 use libc::STDIN_FILENO;
 use libc::STDOUT_FILENO;
+use trace::BLOCKS;
 use trace_count::Count;
 use trace_lines::Report;
 use trace_text::TEXT_WIDTH;
@@ -36,10 +38,13 @@ fn count_read(
     marks: &mut [u32],
     words: &mut [u32],
     memory: &mut [u32],
+    masks: &mut [u8],
 ) -> Progress
     requires { ⌜ Countable (countStage count (lent blocks counters marks words memory)) ⌝ }
+    requires { ⌜ TrueMasks traceSetup (lent blocks counters marks words memory) masks ⌝ }
     ensures { λ r. ⌜ reading r (after blocks counters marks words memory)
         ≡ afterRead (countStage count (before blocks counters marks words memory)) (readOf got (now (buffer .entry))) ⌝ }
+    ensures { λ _. ⌜ now (masks .exit) ≡ masksOf traceSetup (after blocks counters marks words memory) ⌝ }
 {
     if got <= 0 {
         return Progress {
@@ -49,7 +54,16 @@ fn count_read(
         };
     }
     let n = io::count(got, buffer);
-    let next = trace::feed(count, &buffer[..n], blocks, counters, marks, words, memory);
+    let next = trace::feed(
+        count,
+        &buffer[..n],
+        blocks,
+        counters,
+        marks,
+        words,
+        memory,
+        masks,
+    );
     let refusal = next.refusal;
     Progress {
         going: refusal == protocol_types::NO_REFUSAL,
@@ -67,13 +81,26 @@ fn read_some(
     marks: &mut [u32],
     words: &mut [u32],
     memory: &mut [u32],
+    masks: &mut [u8],
 ) -> Progress
     requires { ⌜ Countable (countStage count (lent blocks counters marks words memory)) ⌝ }
+    requires { ⌜ TrueMasks traceSetup (lent blocks counters marks words memory) masks ⌝ }
     ensures { λ r. ⌜ Took (countStage count (before blocks counters marks words memory)) (now (buffer .exit))
         (reading r (after blocks counters marks words memory)) ⌝ }
+    ensures { λ _. ⌜ now (masks .exit) ≡ masksOf traceSetup (after blocks counters marks words memory) ⌝ }
 {
     let got = libc::read(STDIN_FILENO, buffer);
-    count_read(got, count, &*buffer, blocks, counters, marks, words, memory)
+    count_read(
+        got,
+        count,
+        &*buffer,
+        blocks,
+        counters,
+        marks,
+        words,
+        memory,
+        masks,
+    )
 }
 
 // Reads to the end of the trace. The count of turns is there so that the loop ends.
@@ -84,9 +111,12 @@ fn read_all(
     marks: &mut [u32],
     words: &mut [u32],
     memory: &mut [u32],
+    masks: &mut [u8],
 ) -> Progress
     requires { ⌜ lent blocks counters marks words memory ≡ fresh traceSetup ⌝ }
+    requires { ⌜ TrueMasks traceSetup (lent blocks counters marks words memory) masks ⌝ }
     ensures { λ r. ⌜ Reached (reading r (after blocks counters marks words memory)) ⌝ }
+    ensures { λ _. ⌜ now (masks .exit) ≡ masksOf traceSetup (after blocks counters marks words memory) ⌝ }
 {
     let mut at = Progress {
         going: true,
@@ -95,7 +125,16 @@ fn read_all(
     };
     let mut turns = u64::MAX;
     while turns > 0 {
-        at = read_some(at.count, buffer, blocks, counters, marks, words, memory);
+        at = read_some(
+            at.count,
+            buffer,
+            blocks,
+            counters,
+            marks,
+            words,
+            memory,
+            masks,
+        );
         if !at.going {
             return at;
         }
@@ -117,14 +156,16 @@ fn read_report(
     marks: &mut [u32],
     words: &mut [u32],
     memory: &mut [u32],
+    masks: &mut [u8],
 ) -> Answer
     requires { ⌜ lent blocks counters marks words memory ≡ fresh traceSetup ⌝ }
+    requires { ⌜ TrueMasks traceSetup (lent blocks counters marks words memory) masks ⌝ }
     ensures { λ r. ⌜ Reported r ⌝ }
 {
     let mut buffer = io::large_buffer();
-    let end = read_all(&mut buffer, blocks, counters, marks, words, memory);
+    let end = read_all(&mut buffer, blocks, counters, marks, words, memory, masks);
     let count = end.count;
-    let report = trace::finish(count, blocks, counters, marks, words, memory);
+    let report = trace::finish(count, blocks, counters, marks, words, memory, masks);
     Answer {
         failed: end.failed,
         report: report,
@@ -169,12 +210,14 @@ pub fn run() -> Delivery
     let mut marks = [0u32; SLOTS];
     let mut words = [0u32; WORDS];
     let mut memory = [0u32; VARIABLES];
+    let mut masks = [0u8; BLOCKS];
     let answer = read_report(
         &mut blocks,
         &mut counters,
         &mut marks,
         &mut words,
         &mut memory,
+        &mut masks,
     );
     let written = tell(answer);
     Delivery {

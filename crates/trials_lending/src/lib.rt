@@ -8,9 +8,9 @@ use protocol_types::Request;
 use protocol_types::Setup;
 ghost use mathlib.Core.Path.{_≡_};
 ghost use lib.ListN.{length};
-ghost use Rattle.protocol.specs.Lent.{before, after};
+ghost use Rattle.protocol.specs.Lent.{maskedBefore, maskedAfter};
 ghost use Rattle.protocol.specs.Engines.{run as ran};
-ghost use Rattle.protocol.specs.Runs.{engine};
+ghost use Rattle.protocol.specs.Runs.{maskedEngine};
 ghost use Rattle.protocol.specs.Pricer.{price as priced, priceTables, inNumbers, priceNumbers};
 ghost use Rattle.protocol.specs.Generator.{generateRefusal, generated};
 ghost use Rattle.rival_copies.specs.Copies.{rivalBefore, rivalAfter};
@@ -29,12 +29,13 @@ pub fn run_array(
     marks: &mut [u32],
     words: &mut [u32],
     memory: &mut [u32],
+    masks: &mut [u8],
     mut account: Account,
     requests: [Request; REQUESTS],
     values: &mut [u32],
 ) -> Ran
-    ensures { λ r. ⌜ outcome (r .answer) (after blocks counters marks words memory) (r .account) (now (values .exit))
-        ≡ ran (engine setup) (before blocks counters marks words memory) account requests (now (values .entry)) ⌝ }
+    ensures { λ r. ⌜ outcome (r .answer) (maskedAfter blocks counters marks words memory masks) (r .account) (now (values .exit))
+        ≡ ran (maskedEngine setup) (maskedBefore blocks counters marks words memory masks) account requests (now (values .entry)) ⌝ }
 {
     let answer = run::run(
         setup,
@@ -43,6 +44,7 @@ pub fn run_array(
         marks,
         words,
         memory,
+        masks,
         &mut account,
         &requests,
         values,

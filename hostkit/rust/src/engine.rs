@@ -1,13 +1,13 @@
 use crate::archive::call;
 use crate::{Account, Block, Refusal, Request, RunError, Setup, Tables};
 
-/// Fills all tables with 0.
+/// Fills all tables and masks with 0.
 ///
 /// # Errors
 ///
 /// In this order [`SetupOutOfRange`](Refusal::SetupOutOfRange),
-/// [`PriceOutOfRange`](Refusal::PriceOutOfRange), [`WrongLength`](Refusal::WrongLength) of a table:
-/// then no table changes.
+/// [`PriceOutOfRange`](Refusal::PriceOutOfRange), [`WrongLength`](Refusal::WrongLength) of a table or
+/// of the masks: then nothing changes.
 ///
 /// # Panics
 ///
@@ -19,10 +19,11 @@ pub fn start(setup: Setup, tables: &mut Tables) -> Result<(), Refusal> {
         marks,
         words,
         memory,
+        masks,
     } = tables;
-    // SAFETY: five buffers that are apart from each other, each with its length.
+    // SAFETY: six buffers that are apart from each other, each with its length.
     let number = unsafe {
-        call!(cuzkelor_start, setup, as_mut_ptr of [blocks, counters, marks, words, memory])
+        call!(cuzkelor_start, setup, as_mut_ptr of [blocks, counters, marks, words, memory, masks])
     };
     Refusal::check(number)
 }
@@ -57,10 +58,13 @@ pub fn look(setup: Setup, tables: &Tables, processor: u32, block: Block) -> &[u3
 ///
 /// A write to a block that other caches hold too lowers the smallest of their counters by 1, of equal
 /// ones the lowest processor's, and at 0 that line becomes empty. (Up to version 0.3 it was the lowest
-/// other holder's, whatever the counters; tables and accounts of then may be used on.)
+/// other holder's, whatever the counters.)
 ///
 /// A clear empties its processor's cache, so that the card can be swapped: from line 0 up, marked
 /// blocks are written back and every line becomes empty. No other cache changes.
+///
+/// Tables and accounts of earlier versions may be used on. Tables from before 0.6 have no masks: they
+/// get them by [`fill_masks`](Tables::fill_masks).
 ///
 /// ```
 /// use cuzkelor::{run, Account, Request, Tables, Variable, TRACE_SETUP};
@@ -83,8 +87,8 @@ pub fn look(setup: Setup, tables: &Tables, processor: u32, block: Block) -> &[u3
 /// # Errors
 ///
 /// In this order [`SetupOutOfRange`](Refusal::SetupOutOfRange),
-/// [`PriceOutOfRange`](Refusal::PriceOutOfRange), [`WrongLength`](Refusal::WrongLength) of a table or
-/// of the values, [`UnsoundTables`](Refusal::UnsoundTables),
+/// [`PriceOutOfRange`](Refusal::PriceOutOfRange), [`WrongLength`](Refusal::WrongLength) of a table, of
+/// the masks or of the values, [`UnsoundTables`](Refusal::UnsoundTables), also of a false mask,
 /// [`ImpossibleAccount`](Refusal::ImpossibleAccount): then nothing changes. For each request
 /// [`NoSuchProcessor`](Refusal::NoSuchProcessor), [`NoSuchVariable`](Refusal::NoSuchVariable) unless
 /// it is a clear, [`AccountFull`](Refusal::AccountFull): then everything is as the requests before it
@@ -106,16 +110,18 @@ pub fn run(
         marks,
         words,
         memory,
+        masks,
     } = tables;
     let numbers = Request::numbers(requests);
     let (mut taken, mut place) = (0, 0);
-    // SAFETY: the tables, the account, the values and the two out-parameters are apart from each
-    // other and from the list, as mutable borrows are, and each buffer goes with its length.
+    // SAFETY: the tables, the masks, the account, the values and the two out-parameters are apart
+    // from each other and from the list, as mutable borrows are, and each buffer goes with its
+    // length.
     let number = unsafe {
         call!(
             cuzkelor_run,
             setup,
-            as_mut_ptr of [blocks, counters, marks, words, memory],
+            as_mut_ptr of [blocks, counters, marks, words, memory, masks],
             &mut account.requests,
             &mut account.fetch,
             &mut account.write_back,

@@ -97,6 +97,12 @@ impl Setup {
         self.length([self.block_words, self.block_count])
     }
 
+    /// The masks of holders: one for each block. 0 where a size is out of range.
+    #[must_use]
+    pub fn mask_count(self) -> usize {
+        self.length([self.block_count])
+    }
+
     fn length<const COUNT: usize>(self, factors: [u32; COUNT]) -> usize {
         if !self.sizes_in_range() {
             return 0;

@@ -1,9 +1,12 @@
 use crate::archive::check_version;
-use crate::{raw, Account, Refusal, Tables, TraceError};
+use crate::{raw, Account, Refusal, Tables, TraceError, TRACE_SETUP};
 
-/// Counts a whole din trace over tables of [`TRACE_SETUP`](crate::TRACE_SETUP), which it starts
-/// itself. Labels 0 and 2 read, 1 writes and 4 clears. What a clear does and who pays for a write is
-/// said at [`run`](crate::run): the counts of a trace may differ from those up to version 0.3.
+/// Counts a whole din trace over tables of [`TRACE_SETUP`], which it starts itself. Labels 0 and 2
+/// read, 1 writes and 4 clears. What a clear does and who pays for a write is said at
+/// [`run`](crate::run): the counts of a trace may differ from those up to version 0.3.
+///
+/// The archive's trace is lent no masks. They are made anew from the tables that it leaves, so that a
+/// run may go on from them.
 ///
 /// ```
 /// use cuzkelor::{count_trace, Tables, TRACE_SETUP};
@@ -23,7 +26,7 @@ use crate::{raw, Account, Refusal, Tables, TraceError};
 ///
 /// # Errors
 ///
-/// [`WrongLength`](Refusal::WrongLength) of a table: then no table changes. For each line
+/// [`WrongLength`](Refusal::WrongLength) of a table: then nothing changes. For each line
 /// [`MalformedLine`](Refusal::MalformedLine), [`UnknownLabel`](Refusal::UnknownLabel),
 /// [`NoSuchProcessor`](Refusal::NoSuchProcessor), [`NoSuchVariable`](Refusal::NoSuchVariable),
 /// [`AccountFull`](Refusal::AccountFull): then the tables and the error's account are as the lines
@@ -59,7 +62,11 @@ pub fn count_trace(bytes: &[u8], tables: &mut Tables) -> Result<Account, TraceEr
             &mut line,
         )
     };
-    match Refusal::check(number) {
+    let counted = Refusal::check(number);
+    if counted != Err(Refusal::WrongLength) {
+        tables.fill_masks(TRACE_SETUP);
+    }
+    match counted {
         Ok(()) => Ok(account),
         Err(refusal) => Err(TraceError {
             refusal,

@@ -59,11 +59,15 @@ fn run_errors() {
     let error = board.run(&requests).expect_err("no such variable");
     assert_eq!((error.taken, error.place), (2, 2));
     assert_eq!(text(error), "refused by 4 at place 2: no such variable");
-    let mut tables = Tables::sized(TRACE_SETUP);
-    tables.marks[0] = 1;
-    let mut account = Account::default();
-    let error = run(TRACE_SETUP, &mut tables, &mut account, &[], &mut []).expect_err("unsound");
-    assert_eq!(text(error), "refused by 20: the tables are not sound");
+    let unsound = |spoil: fn(&mut Tables)| {
+        let mut tables = Tables::sized(TRACE_SETUP);
+        spoil(&mut tables);
+        let mut account = Account::default();
+        let error = run(TRACE_SETUP, &mut tables, &mut account, &[], &mut []).expect_err("unsound");
+        assert_eq!(text(error), "refused by 20: the tables are not sound");
+    };
+    unsound(|tables| tables.marks[0] = 1);
+    unsound(|tables| tables.masks[63] = 1);
 }
 
 #[test]
@@ -127,7 +131,7 @@ fn trace_errors() {
 fn version() {
     // SAFETY: takes nothing.
     let archive = unsafe { raw::cuzkelor_version() };
-    assert_eq!((archive, raw::CUZKELOR_VERSION), (5, 5));
+    assert_eq!((archive, raw::CUZKELOR_VERSION), (6, 6));
 }
 
 #[test]
@@ -187,9 +191,10 @@ fn lengths_of_a_setup() {
             setup.slot_count(),
             setup.word_count(),
             setup.variable_count(),
+            setup.mask_count(),
         ]
     };
-    assert_eq!(lengths(TRACE_SETUP), [32, 128, 256]);
+    assert_eq!(lengths(TRACE_SETUP), [32, 128, 256, 64]);
     let out_of_range = Setup {
         processors: u32::MAX,
         lines: u32::MAX,
@@ -198,7 +203,7 @@ fn lengths_of_a_setup() {
         fetch_price: u32::MAX,
         write_back_price: u32::MAX,
     };
-    assert_eq!(lengths(out_of_range), [0; 3]);
+    assert_eq!(lengths(out_of_range), [0; 4]);
 }
 
 /// Whether a board can be made of a setup, and by what it is refused if not.

@@ -1,6 +1,6 @@
 -- A hit or a miss; the tables keep their lengths when the block in the way leaves. Its mask loses the processor's bit, then the block's gains it.
 use borrow.Author.Needs.{needs}
-use mathlib.Core.Path.{_≡_, sym, subst, ap, _∙_}
+use mathlib.Core.Path.{sym, subst, ap, _∙_}
 use native.Mathlib.Omega.{arith}
 use denote.Ref.{now}
 use Rattle.protocol.specs.Tables.{Tables, tables, Sized}

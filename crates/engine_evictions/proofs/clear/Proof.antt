@@ -9,7 +9,7 @@ use denote.Ref.{now}
 use Rattle.protocol.specs.Tables.{tables, Sized}
 use Rattle.protocol.specs.Masks.{masksOf}
 use Rattle.protocol.specs.Rules.{cleared, clearCycles}
-use Rattle.engine_masks.specs.Copies.{Proper, StandsAt}
+use Rattle.engine_masks.specs.Copies.{Proper}
 use Rattle.protocol.proofs.Lengths.{sized-cleared}
 use Rattle.protocol.proofs.Masks.{masks-length}
 use Rattle.engine_masks.proofs.Rules.{stands}
@@ -20,14 +20,14 @@ use Rattle.engine_evictions.proofs.clear.Statement.{statement}
 use Rattle.engine_evictions.proofs.clear.Tie as tie
 
 abbrev Inv-loop : tie.InvT-loop
-Inv-loop setup processor blocks₀ counters₀ marks₀ words₀ memory₀ masks₀ n cycles₀ l₀ blocks counters marks words memory masks cycles l =
+Inv-loop setup i blocks₀ counters₀ marks₀ words₀ memory₀ masks₀ n cycles₀ l₀ blocks counters marks words memory masks cycles l =
     (l ≤ setup .lines)
-    × (cycles ≡ clearCycles setup (tables blocks₀ counters₀ marks₀ words₀ memory₀) processor l)
-    × (tables blocks counters marks words memory ≡ cleared setup (tables blocks₀ counters₀ marks₀ words₀ memory₀) processor l)
+    × (cycles ≡ clearCycles setup (tables blocks₀ counters₀ marks₀ words₀ memory₀) i l)
+    × (tables blocks counters marks words memory ≡ cleared setup (tables blocks₀ counters₀ marks₀ words₀ memory₀) i l)
     × (masks ≡ masksOf setup (tables blocks counters marks words memory))
 
 abbrev μ-loop : tie.MeasureT-loop
-μ-loop setup processor blocks₀ counters₀ marks₀ words₀ memory₀ masks₀ n cycles₀ l₀ blocks counters marks words memory masks cycles l =
+μ-loop setup i blocks₀ counters₀ marks₀ words₀ memory₀ masks₀ n cycles₀ l₀ blocks counters marks words memory masks cycles l =
     setup .lines - l
 
 loop-holds : tie.Need-loop-holds Inv-loop μ-loop
@@ -53,10 +53,10 @@ evict-requires c κs =
       (
         (p .1 .0, k .1),
         (
-          subst (Inside s) e (inside-cleared s (p .0) t (a .processor) l (p .1 .1 .0)) (c .before .before .before .before .before .before .line-slot .result),
+          subst (Inside s) e (inside-cleared s (p .0) t (a .i) l (p .1 .1 .0)) (c .before .before .before .before .before .before .line-slot .result),
           (
-            rw (k .0) (stands s (p .0) u (subst (Proper s) e (proper-cleared s (p .0) t (a .processor) l (p .1 .1 .1 .0))) (a .processor) l (p .1 .0) (omega arith)),
-            (subst (Sized s) e (sized-cleared s t (p .1 .1 .1 .1 .0) (a .processor) l), c .before .before .before .before .before .before .before .before .loop .inv .3),
+            rw (k .0) (stands s (p .0) u (subst (Proper s) e (proper-cleared s (p .0) t (a .i) l (p .1 .1 .1 .0))) (a .i) l (p .1 .0) (omega arith)),
+            (subst (Sized s) e (sized-cleared s t (p .1 .1 .1 .1 .0) (a .i) l), c .before .before .before .before .before .before .before .before .loop .inv .3),
           ),
         ),
       ),
@@ -67,8 +67,8 @@ add-cycles c =
     let a = c .before .before .before .before .before .before .before .before .before .before .before .before .before .before .before .before .before .before .before .before .before .before .before .before .before .before .before .before .args in
     let t = tables (now (a .blocks)) (now (a .counters)) (now (a .marks)) (now (a .words)) (now (a .memory)) in
     let l = c .before .before .before .before .before .before .before .before .before .before .before .before .before .before .before .before .before .before .before .before .before .loop .l in
-    let n = next-cycles (a .setup) t (a .processor) l (c .before .before .before .before .before .before .before .before .before .before .before .before .before .before .before .before .before .before .before .before .before .loop .inv .2) (c .before .before .before .before .before .before .before .before .before .before .before .before .before .before .before .before .before .before .before .line-slot .ensures .0) (c .before .before .before .before .before .before .before .before .before .before .before .before .before .before .before .before .before .before .before .before .before .loop .inv .1) (c .before .before .before .before .before .before .before .before .before .before .before .before .evict .ensures .0) in
-    omega (arith, few-cycles (a .setup) (c .before .before .before .before .before .before .before .before .before .before .before .before .before .before .before .before .before .before .before .before .before .before .before .before .before .before .before .before .pre .0) t (a .processor) (l + 1) (omega arith) n)
+    let n = next-cycles (a .setup) t (a .i) l (c .before .before .before .before .before .before .before .before .before .before .before .before .before .before .before .before .before .before .before .before .before .loop .inv .2) (c .before .before .before .before .before .before .before .before .before .before .before .before .before .before .before .before .before .before .before .line-slot .ensures .0) (c .before .before .before .before .before .before .before .before .before .before .before .before .before .before .before .before .before .before .before .before .before .loop .inv .1) (c .before .before .before .before .before .before .before .before .before .before .before .before .evict .ensures .0) in
+    omega (arith, few-cycles (a .setup) (c .before .before .before .before .before .before .before .before .before .before .before .before .before .before .before .before .before .before .before .before .before .before .before .before .before .before .before .before .pre .0) t (a .i) (l + 1) (omega arith) n)
 
 loop-again : tie.Need-loop-again Inv-loop μ-loop
 loop-again c =
@@ -78,25 +78,25 @@ loop-again c =
     let e = c .before .before .before .before .before .before .before .before .before .before .before .before .before .before .before .before .before .before .before .before .before .loop .inv .2 in
     let k = c .before .before .before .before .before .before .before .before .before .before .before .before .before .before .before .before .before .before .before .line-slot .ensures .0 in (
       omega arith,
-      next-cycles (a .setup) t (a .processor) l e k (c .before .before .before .before .before .before .before .before .before .before .before .before .before .before .before .before .before .before .before .before .before .loop .inv .1) (c .before .before .before .before .before .before .before .before .before .before .before .before .evict .ensures .0),
-      next-cleared (a .setup) t (a .processor) l e k (c .before .before .before .before .before .before .before .before .before .before .before .before .evict .ensures .1 .0),
+      next-cycles (a .setup) t (a .i) l e k (c .before .before .before .before .before .before .before .before .before .before .before .before .before .before .before .before .before .before .before .before .before .loop .inv .1) (c .before .before .before .before .before .before .before .before .before .before .before .before .evict .ensures .0),
+      next-cleared (a .setup) t (a .i) l e k (c .before .before .before .before .before .before .before .before .before .before .before .before .evict .ensures .1 .0),
       c .before .before .before .before .before .before .before .before .before .before .before .before .evict .ensures .1 .1,
     )
 
 same-length : tie.Need-same-length Inv-loop μ-loop
-same-length c = kept-lengths (c .before .before .before .before .before .before .before .before .args .setup) (c .before .before .before .before .before .before .before .before .args .processor) (c .before .loop .l) (c .before .before .before .before .before .before .before .before .pre .1 .1 .1 .1 .0) (c .before .loop .inv .2) .0
+same-length c = kept-lengths (c .before .before .before .before .before .before .before .before .args .setup) (c .before .before .before .before .before .before .before .before .args .i) (c .before .loop .l) (c .before .before .before .before .before .before .before .before .pre .1 .1 .1 .1 .0) (c .before .loop .inv .2) .0
 
 same-length-2 : tie.Need-same-length-2 Inv-loop μ-loop
-same-length-2 c = kept-lengths (c .before .before .before .before .before .before .before .before .args .setup) (c .before .before .before .before .before .before .before .before .args .processor) (c .before .loop .l) (c .before .before .before .before .before .before .before .before .pre .1 .1 .1 .1 .0) (c .before .loop .inv .2) .1
+same-length-2 c = kept-lengths (c .before .before .before .before .before .before .before .before .args .setup) (c .before .before .before .before .before .before .before .before .args .i) (c .before .loop .l) (c .before .before .before .before .before .before .before .before .pre .1 .1 .1 .1 .0) (c .before .loop .inv .2) .1
 
 same-length-3 : tie.Need-same-length-3 Inv-loop μ-loop
-same-length-3 c = kept-lengths (c .before .before .before .before .before .before .before .before .args .setup) (c .before .before .before .before .before .before .before .before .args .processor) (c .before .loop .l) (c .before .before .before .before .before .before .before .before .pre .1 .1 .1 .1 .0) (c .before .loop .inv .2) .2
+same-length-3 c = kept-lengths (c .before .before .before .before .before .before .before .before .args .setup) (c .before .before .before .before .before .before .before .before .args .i) (c .before .loop .l) (c .before .before .before .before .before .before .before .before .pre .1 .1 .1 .1 .0) (c .before .loop .inv .2) .2
 
 same-length-4 : tie.Need-same-length-4 Inv-loop μ-loop
-same-length-4 c = kept-lengths (c .before .before .before .before .before .before .before .before .args .setup) (c .before .before .before .before .before .before .before .before .args .processor) (c .before .loop .l) (c .before .before .before .before .before .before .before .before .pre .1 .1 .1 .1 .0) (c .before .loop .inv .2) .3
+same-length-4 c = kept-lengths (c .before .before .before .before .before .before .before .before .args .setup) (c .before .before .before .before .before .before .before .before .args .i) (c .before .loop .l) (c .before .before .before .before .before .before .before .before .pre .1 .1 .1 .1 .0) (c .before .loop .inv .2) .3
 
 same-length-5 : tie.Need-same-length-5 Inv-loop μ-loop
-same-length-5 c = kept-lengths (c .before .before .before .before .before .before .before .before .args .setup) (c .before .before .before .before .before .before .before .before .args .processor) (c .before .loop .l) (c .before .before .before .before .before .before .before .before .pre .1 .1 .1 .1 .0) (c .before .loop .inv .2) .4
+same-length-5 c = kept-lengths (c .before .before .before .before .before .before .before .before .args .setup) (c .before .before .before .before .before .before .before .before .args .i) (c .before .loop .l) (c .before .before .before .before .before .before .before .before .pre .1 .1 .1 .1 .0) (c .before .loop .inv .2) .4
 
 same-length-6 : tie.Need-same-length-6 Inv-loop μ-loop
 same-length-6 c =

@@ -1,6 +1,6 @@
 -- The slot is saved, then emptied; the mask of its block loses the processor's bit (masks-evicted).
 use borrow.Author.Needs.{needs}
-use mathlib.Core.Path.{_≡_, sym, ap, _∙_}
+use mathlib.Core.Path.{sym, ap, _∙_}
 use native.Mathlib.Omega.{arith}
 use denote.Ref.{now}
 use Rattle.protocol.specs.Tables.{Tables, tables}

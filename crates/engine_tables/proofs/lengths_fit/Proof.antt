@@ -37,13 +37,40 @@ returns-4 c =
 returns-5 : tie.Need-returns-5
 unfolding lengthsFit
 returns-5 c =
-    let if3′ = c .before .before .before in
+    let word-count′ = c .before .before .before in
+    let if3′ = word-count′ .before in
     let slot-count3′ = if3′ .before in
     let if2′ = slot-count3′ .before in
     let slot-count2′ = if2′ .before in
     let if1′ = slot-count2′ .before in
     let slot-count′ = if1′ .before in
-    rw (eq-eqb _ _ (if1′ .if1 .left ∙ slot-count′ .slot-count .ensures), eq-eqb _ _ (if2′ .if2 .left ∙ slot-count2′ .slot-count2 .ensures), eq-eqb _ _ (if3′ .if3 .left ∙ slot-count3′ .slot-count3 .ensures), eq-eqb _ _ (c .before .if4 .left ∙ c .before .before .word-count .ensures), c .variable-count .ensures)
+    rw (
+      eq-eqb _ _ (if1′ .if1 .left ∙ slot-count′ .slot-count .ensures),
+      eq-eqb _ _ (if2′ .if2 .left ∙ slot-count2′ .slot-count2 .ensures),
+      eq-eqb _ _ (if3′ .if3 .left ∙ slot-count3′ .slot-count3 .ensures),
+      eq-eqb _ _ (c .before .before .if4 .left ∙ word-count′ .word-count .ensures),
+      ne-eqb _ _ (λ e. c .if5 .taken (e ∙ sym (c .before .variable-count .ensures))),
+    )
+
+returns-6 : tie.Need-returns-6
+unfolding lengthsFit
+returns-6 c =
+    let variable-count′ = c .before .before in
+    let if4′ = variable-count′ .before in
+    let word-count′ = if4′ .before in
+    let if3′ = word-count′ .before in
+    let slot-count3′ = if3′ .before in
+    let if2′ = slot-count3′ .before in
+    let slot-count2′ = if2′ .before in
+    let if1′ = slot-count2′ .before in
+    let slot-count′ = if1′ .before in
+    rw (
+      eq-eqb _ _ (if1′ .if1 .left ∙ slot-count′ .slot-count .ensures),
+      eq-eqb _ _ (if2′ .if2 .left ∙ slot-count2′ .slot-count2 .ensures),
+      eq-eqb _ _ (if3′ .if3 .left ∙ slot-count3′ .slot-count3 .ensures),
+      eq-eqb _ _ (if4′ .if4 .left ∙ word-count′ .word-count .ensures),
+      eq-eqb _ _ (c .before .if5 .left ∙ variable-count′ .variable-count .ensures),
+    )
 
 pub lengths-fit-spec : {M : Type 1} → statement M
 lengths-fit-spec =
@@ -59,4 +86,6 @@ lengths-fit-spec =
     returns-4
     (λ c κs. search needs)
     (λ c. search needs)
-    returns-5)
+    returns-5
+    (λ c. search needs)
+    returns-6)

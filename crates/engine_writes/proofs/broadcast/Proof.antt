@@ -2,8 +2,6 @@
 use borrow.Author.Needs.{needs}
 use native.Mathlib.Omega.{arith}
 use denote.Ref.{now}
-use Rattle.protocol.specs.Tables.{holdsAt, holds}
-use Rattle.protocol.specs.Masks.{holders}
 use Rattle.protocol.specs.Rules.{broadcast}
 use Rattle.protocol_types.proofs.Board.{wordIndex-lt}
 use Rattle.engine_writes.proofs.broadcast.Statement.{statement}

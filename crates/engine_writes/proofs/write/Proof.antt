@@ -9,7 +9,7 @@ use native.Mathlib.Omega.{arith}
 use borrow.Author.Tests.{lt-ltb, le-ltb, eqb-true, eqb-false, not-true, not-false}
 use denote.Ref.{now}
 use Rattle.protocol_types.specs.Board.{Fits, slots, slot, fetchPrice}
-use Rattle.protocol.specs.Tables.{Tables, tables, Sized, counter, block, holds, sharing}
+use Rattle.protocol.specs.Tables.{Tables, tables, Sized, counter, holds, sharing}
 use Rattle.protocol.specs.Masks.{holders, masksOf}
 use Rattle.protocol.specs.Rules.{payer, writtenAlone, broadcast, charged, written, updateCycles}
 use Rattle.engine_masks.specs.Copies.{lost}

@@ -1,7 +1,7 @@
 -- The payer's counter is at least 1 after the writer's is refilled, be it the same slot or not.
 use borrow.Author.Needs.{needs}
 use Prim.Native.Nat.{ℕ, _≤_}
-use mathlib.Core.Path.{_≡_, ap, _∙_}
+use mathlib.Core.Path.{ap, _∙_}
 use lib.Dec.{eqb}
 use denote.Ref.{now}
 use Rattle.protocol_types.specs.Lists.{at}

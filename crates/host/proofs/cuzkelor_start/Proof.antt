@@ -5,8 +5,8 @@ use Rattle.host.proofs.cuzkelor_start.Tie as tie
 
 returns : tie.Need-returns
 returns c =
-    let start′ = c .before .before .before .before .before .before .before .before .before .before in
-    let setup-of′ = start′ .before .before .before .before .before .before in
+    let start′ = c .before .before .before .before .before .before .before .before .before .before .before .before in
+    let setup-of′ = start′ .before .before .before .before .before .before .before in
     rw (setup-of′ .setup-of .ensures) at (start′ .start .ensures)
 
 pub cuzkelor-start-spec : {M : Type 1} → statement M
@@ -15,6 +15,7 @@ cuzkelor-start-spec =
     (tie.spec
     (λ c κs. search needs)
     (λ c κs. search needs)
+    (λ c. search needs)
     (λ c. search needs)
     (λ c. search needs)
     (λ c. search needs)

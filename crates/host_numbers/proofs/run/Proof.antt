@@ -4,6 +4,7 @@ use Prim.Native.Nat.{ℕ}
 use mathlib.Core.Path.{ap, _∙_}
 use denote.Ref.{now}
 use Rattle.protocol.specs.Tables.{tables}
+use Rattle.protocol.specs.Masks.{masked}
 use Rattle.protocol.specs.Engines.{endedBy}
 use Rattle.protocol_types.proofs.Laws.{failed, passed}
 use Rattle.host_numbers.proofs.Runs.{run-whole, run-partial}
@@ -13,18 +14,18 @@ use Rattle.host_numbers.proofs.run.Tie as tie
 returns : tie.Need-returns
 returns c =
     let is-whole′ = c .before .before in
-    let a = is-whole′ .before .before .before .before .before .before .before .before .args in
-    let T = tables (now (a .blocks)) (now (a .counters)) (now (a .marks)) (now (a .words)) (now (a .memory)) in
+    let a = is-whole′ .before .before .before .before .before .before .before .before .before .args in
+    let T = masked (tables (now (a .blocks)) (now (a .counters)) (now (a .marks)) (now (a .words)) (now (a .memory))) (now (a .masks)) in
     ap (λ (n : ℕ). endedBy n T (a .account) (now (a .values))) (c .partial-refusal .ensures)
     ∙ run-partial (a .setup) T (a .account) (now (a .requests)) (now (a .values)) (failed (is-whole′ .is-whole .ensures) (c .before .if1 .taken))
 
 returns-2 : tie.Need-returns-2
 returns-2 c =
-    let run-requests′ = c .before .before .before .before .before .before .before .before .before .before .before .before in
-    let if1′ = run-requests′ .before .before .before .before .before .before .before in
+    let run-requests′ = c .before .before .before .before .before .before .before .before .before .before .before .before .before .before in
+    let if1′ = run-requests′ .before .before .before .before .before .before .before .before in
     let is-whole′ = if1′ .before in
-    let a = is-whole′ .before .before .before .before .before .before .before .before .args in
-    let T = tables (now (a .blocks)) (now (a .counters)) (now (a .marks)) (now (a .words)) (now (a .memory)) in
+    let a = is-whole′ .before .before .before .before .before .before .before .before .before .args in
+    let T = masked (tables (now (a .blocks)) (now (a .counters)) (now (a .marks)) (now (a .words)) (now (a .memory))) (now (a .masks)) in
     run-requests′ .run-requests .ensures
     ∙ run-whole (a .setup) T (a .account) (now (a .requests)) (now (a .values)) (passed (is-whole′ .is-whole .ensures) (if1′ .if1 .left))
 
@@ -36,6 +37,7 @@ run-spec =
     (λ c κs. search needs)
     returns
     (λ c κs. search needs)
+    (λ c. search needs)
     (λ c. search needs)
     (λ c. search needs)
     (λ c. search needs)

@@ -1,41 +1,30 @@
--- The loop's invariant: the words passed are 0 and the others as they were.
+-- The loop's invariant: the words passed are 0 and the others as they were (Cleared).
 -- Assumes nothing.
-use mathlib.Core.Path.{_≡_, refl, _∙_}
-use mathlib.Core.List.{_++_, append-nil}
-use Prim.Native.Nat.{_≤_, _-_}
+use Prim.Native.Nat.{_-_}
 use native.Mathlib.Omega.{arith}
 use borrow.Author.Needs.{needs}
-use borrow.Author.Fill.{fill-more}
-use lib.ListN.{length, replicate, drop, length-set}
-use denote.Ref.{now}
-use lib.Seq.{drop-length}
+use lib.ListN.{length}
+use Rattle.parts.proofs.Laws.{Cleared, cleared-start, cleared-more, cleared-all}
 use Rattle.parts.proofs.clear.Statement.{statement}
 use Rattle.parts.proofs.clear.Tie as tie
 
 abbrev Inv-loop : tie.InvT-loop
-Inv-loop part₀ i₀ part i = (i ≤ length part₀) × (length part ≡ length part₀) × (part ≡ replicate i 0 ++ drop i part₀)
+Inv-loop part₀ i₀ part i = Cleared part₀ part i
 
 abbrev μ-loop : tie.MeasureT-loop
 μ-loop part₀ i₀ part i = length part₀ - i
 
 loop-holds : tie.Need-loop-holds Inv-loop μ-loop
-loop-holds c = (omega arith, refl, refl)
+loop-holds c = cleared-start _
 
 loop-less : tie.Need-loop-less Inv-loop μ-loop
 loop-less c = omega arith
 
 loop-again : tie.Need-loop-again Inv-loop μ-loop
-loop-again c =
-    let i = c .before .loop .i in
-    let inv = c .before .loop .inv in
-    (omega arith, simp length-set (inv .1), rw (inv .2) (fill-more i 0 _ (omega arith)))
+loop-again c = cleared-more (c .before .loop .inv) (omega arith)
 
 returns : tie.Need-returns Inv-loop μ-loop
-returns c =
-    let inv = c .before .loop .inv in
-    let d = now (c .before .before .args .part) in
-    let e : c .before .loop .i ≡ length d = omega arith in
-    inv .2 ∙ rw (e, drop-length) (append-nil _)
+returns c = cleared-all (c .before .loop .inv) (omega arith)
 
 pub clear-spec : {M : Type 1} → statement M
 clear-spec =

@@ -8,7 +8,7 @@ use Rattle.run_steps.proofs.begin.Tie as tie
 returns : tie.Need-returns
 returns c =
     let run-refusal′ = c .before in
-    let a = run-refusal′ .before .before .before .before .before .before .before .args in
+    let a = run-refusal′ .before .before .before .before .before .before .before .before .args in
     c .begin .ensures ∙ ap (λ n. begun n (a .account) (a .count)) (run-refusal′ .run-refusal .ensures)
 
 pub begin-spec : {M : Type 1} → statement M

@@ -4,17 +4,17 @@ use borrow.Author.Needs.{needs}
 use borrow.Author.Tests.{eq-eqb, ne-eqb}
 use denote.Ref.{now}
 use Rattle.protocol.specs.Tables.{tables}
-use Rattle.protocol.specs.Runs.{runRefusal}
+use Rattle.protocol.specs.Masks.{masked}
+use Rattle.protocol.specs.Runs.{maskedRefusal}
 use Rattle.protocol_types.proofs.Board.{setup-fits}
-use Rattle.protocol.proofs.Checked.{passed-sized}
 use Rattle.protocol_types.proofs.Laws.{failed, passed}
 use Rattle.protocol_types.proofs.Refusals.{code-refuses}
-use Rattle.engine_tables.proofs.Tests.{sized-is}
+use Rattle.engine_tables.proofs.Tests.{sized-is, passed-lengths}
 use Rattle.run_steps.proofs.run_refusal.Statement.{statement}
 use Rattle.run_steps.proofs.run_refusal.Tie as tie
 
 returns : tie.Need-returns
-unfolding runRefusal
+unfolding maskedRefusal
 returns c =
     let refusal′ = c .before in
     rw (code-refuses _ _ (refusal′ .refusal .ensures) (c .if1 .taken)) (refusal′ .refusal .ensures)
@@ -22,31 +22,31 @@ returns c =
 lengths-fit-requires : tie.Need-lengths-fit-requires
 lengths-fit-requires c κs =
     let refusal′ = c .before in
-    let start = refusal′ .before .before .before .before .before .before .before in
+    let start = refusal′ .before .before .before .before .before .before .before .before in
     setup-fits (start .args .setup) (sym (refusal′ .refusal .ensures) ∙ c .if1 .left)
 
 returns-2 : tie.Need-returns-2
-unfolding runRefusal
+unfolding maskedRefusal
 returns-2 c =
     let lengths-fit′ = c .before in
     let if1′ = lengths-fit′ .before in
     let refusal′ = if1′ .before in
-    let a = refusal′ .before .before .before .before .before .before .before .args in
-    let t = tables (now (a .blocks)) (now (a .counters)) (now (a .marks)) (now (a .words)) (now (a .memory)) in
-    rw (sym (refusal′ .refusal .ensures) ∙ if1′ .if1 .left, sized-is (a .setup) t ∙ failed (lengths-fit′ .lengths-fit .ensures) (c .if2 .taken))
+    let a = refusal′ .before .before .before .before .before .before .before .before .args in
+    let x = masked (tables (now (a .blocks)) (now (a .counters)) (now (a .marks)) (now (a .words)) (now (a .memory))) (now (a .masks)) in
+    rw (sym (refusal′ .refusal .ensures) ∙ if1′ .if1 .left, sized-is (a .setup) x ∙ failed (lengths-fit′ .lengths-fit .ensures) (c .if2 .taken))
 
 returns-3 : tie.Need-returns-3
-unfolding runRefusal
+unfolding maskedRefusal
 returns-3 c =
     let if2′ = c .before in
     let lengths-fit′ = if2′ .before in
     let if1′ = lengths-fit′ .before in
     let refusal′ = if1′ .before in
-    let a = refusal′ .before .before .before .before .before .before .before .args in
-    let t = tables (now (a .blocks)) (now (a .counters)) (now (a .marks)) (now (a .words)) (now (a .memory)) in
+    let a = refusal′ .before .before .before .before .before .before .before .before .args in
+    let x = masked (tables (now (a .blocks)) (now (a .counters)) (now (a .marks)) (now (a .words)) (now (a .memory))) (now (a .masks)) in
     rw (
       sym (refusal′ .refusal .ensures) ∙ if1′ .if1 .left,
-      sized-is (a .setup) t ∙ passed (lengths-fit′ .lengths-fit .ensures) (if2′ .if2 .left),
+      sized-is (a .setup) x ∙ passed (lengths-fit′ .lengths-fit .ensures) (if2′ .if2 .left),
       ne-eqb _ _ (c .if3 .taken),
     )
 
@@ -56,13 +56,13 @@ is-sound-requires c κs =
     let lengths-fit′ = if2′ .before in
     let if1′ = lengths-fit′ .before in
     let refusal′ = if1′ .before in
-    let a = refusal′ .before .before .before .before .before .before .before .args in
-    let t = tables (now (a .blocks)) (now (a .counters)) (now (a .marks)) (now (a .words)) (now (a .memory)) in
-    let l = sized-is (a .setup) t ∙ passed (lengths-fit′ .lengths-fit .ensures) (if2′ .if2 .left) in
-    (setup-fits (a .setup) (sym (refusal′ .refusal .ensures) ∙ if1′ .if1 .left), passed-sized (a .setup) t l)
+    let a = refusal′ .before .before .before .before .before .before .before .before .args in
+    let x = masked (tables (now (a .blocks)) (now (a .counters)) (now (a .marks)) (now (a .words)) (now (a .memory))) (now (a .masks)) in
+    let l = sized-is (a .setup) x ∙ passed (lengths-fit′ .lengths-fit .ensures) (if2′ .if2 .left) in
+    (setup-fits (a .setup) (sym (refusal′ .refusal .ensures) ∙ if1′ .if1 .left), passed-lengths (a .setup) x l)
 
 returns-4 : tie.Need-returns-4
-unfolding runRefusal
+unfolding maskedRefusal
 returns-4 c =
     let is-sound′ = c .before in
     let if3′ = is-sound′ .before in
@@ -70,11 +70,11 @@ returns-4 c =
     let lengths-fit′ = if2′ .before in
     let if1′ = lengths-fit′ .before in
     let refusal′ = if1′ .before in
-    let a = refusal′ .before .before .before .before .before .before .before .args in
-    let t = tables (now (a .blocks)) (now (a .counters)) (now (a .marks)) (now (a .words)) (now (a .memory)) in
+    let a = refusal′ .before .before .before .before .before .before .before .before .args in
+    let x = masked (tables (now (a .blocks)) (now (a .counters)) (now (a .marks)) (now (a .words)) (now (a .memory))) (now (a .masks)) in
     rw (
       sym (refusal′ .refusal .ensures) ∙ if1′ .if1 .left,
-      sized-is (a .setup) t ∙ passed (lengths-fit′ .lengths-fit .ensures) (if2′ .if2 .left),
+      sized-is (a .setup) x ∙ passed (lengths-fit′ .lengths-fit .ensures) (if2′ .if2 .left),
       eq-eqb _ _ (if3′ .if3 .left),
       failed (is-sound′ .is-sound .ensures) (c .if4 .taken),
     )
@@ -83,11 +83,11 @@ is-possible-requires : tie.Need-is-possible-requires
 is-possible-requires c κs =
     let if1′ = c .before .before .before .before .before in
     let refusal′ = if1′ .before in
-    let a = refusal′ .before .before .before .before .before .before .before .args in
+    let a = refusal′ .before .before .before .before .before .before .before .before .args in
     setup-fits (a .setup) (sym (refusal′ .refusal .ensures) ∙ if1′ .if1 .left)
 
 returns-5 : tie.Need-returns-5
-unfolding runRefusal
+unfolding maskedRefusal
 returns-5 c =
     let is-possible′ = c .before in
     let if4′ = is-possible′ .before in
@@ -97,18 +97,18 @@ returns-5 c =
     let lengths-fit′ = if2′ .before in
     let if1′ = lengths-fit′ .before in
     let refusal′ = if1′ .before in
-    let a = refusal′ .before .before .before .before .before .before .before .args in
-    let t = tables (now (a .blocks)) (now (a .counters)) (now (a .marks)) (now (a .words)) (now (a .memory)) in
+    let a = refusal′ .before .before .before .before .before .before .before .before .args in
+    let x = masked (tables (now (a .blocks)) (now (a .counters)) (now (a .marks)) (now (a .words)) (now (a .memory))) (now (a .masks)) in
     rw (
       sym (refusal′ .refusal .ensures) ∙ if1′ .if1 .left,
-      sized-is (a .setup) t ∙ passed (lengths-fit′ .lengths-fit .ensures) (if2′ .if2 .left),
+      sized-is (a .setup) x ∙ passed (lengths-fit′ .lengths-fit .ensures) (if2′ .if2 .left),
       eq-eqb _ _ (if3′ .if3 .left),
       passed (is-sound′ .is-sound .ensures) (if4′ .if4 .left),
       failed (is-possible′ .is-possible .ensures) (c .if5 .taken),
     )
 
 returns-6 : tie.Need-returns-6
-unfolding runRefusal
+unfolding maskedRefusal
 returns-6 c =
     let is-possible′ = c .before in
     let if4′ = is-possible′ .before in
@@ -118,11 +118,11 @@ returns-6 c =
     let lengths-fit′ = if2′ .before in
     let if1′ = lengths-fit′ .before in
     let refusal′ = if1′ .before in
-    let a = refusal′ .before .before .before .before .before .before .before .args in
-    let t = tables (now (a .blocks)) (now (a .counters)) (now (a .marks)) (now (a .words)) (now (a .memory)) in
+    let a = refusal′ .before .before .before .before .before .before .before .before .args in
+    let x = masked (tables (now (a .blocks)) (now (a .counters)) (now (a .marks)) (now (a .words)) (now (a .memory))) (now (a .masks)) in
     rw (
       sym (refusal′ .refusal .ensures) ∙ if1′ .if1 .left,
-      sized-is (a .setup) t ∙ passed (lengths-fit′ .lengths-fit .ensures) (if2′ .if2 .left),
+      sized-is (a .setup) x ∙ passed (lengths-fit′ .lengths-fit .ensures) (if2′ .if2 .left),
       eq-eqb _ _ (if3′ .if3 .left),
       passed (is-sound′ .is-sound .ensures) (if4′ .if4 .left),
       passed (is-possible′ .is-possible .ensures) (c .if5 .left),

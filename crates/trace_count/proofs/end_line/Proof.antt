@@ -1,4 +1,5 @@
--- Each arm of the match is one clause of `lineRefusal`: refused by its number (`counted-refused`), or what `take_request` says.
+-- Each arm of the match is one clause of `lineRefusal`: refused by its number (`counted-refused`), or what `take_request` says. After
+-- a refusal the masks stay with the tables.
 use mathlib.Core.Path.{_≡_, refl, sym, ap, _∙_}
 use Prim.Native.Nat.{ℕ}
 use native.Mathlib.Omega.{arith}
@@ -11,20 +12,24 @@ use Rattle.trace_count.proofs.end_line.Statement.{statement}
 use Rattle.trace_count.proofs.end_line.Tie as tie
 
 returns : tie.Need-returns
-returns c =
-    counted-refused _ Malformed malformedLine _ (c .refuse-line .ensures) refl (λ (z : _≡_ {A = ℕ} malformedLine noRefusal). omega arith)
-    ∙ ap (lineCounted _) (sym (c .before .enum-told .given .1) ∙ c .before .before .before .interpret .ensures)
+returns c = (
+  counted-refused _ Malformed malformedLine _ (c .refuse-line .ensures) refl (λ (z : _≡_ {A = ℕ} malformedLine noRefusal). omega arith)
+      ∙ ap (lineCounted _) (sym (c .before .enum-told .given .1) ∙ c .before .before .before .interpret .ensures),
+  search needs,
+)
 
 returns-2 : tie.Need-returns-2
-returns-2 c =
-    counted-refused _ Unknown unknownLabel _ (c .refuse-line2 .ensures) refl (λ (z : _≡_ {A = ℕ} unknownLabel noRefusal). omega arith)
-    ∙ ap (lineCounted _) (sym (c .before .enum-told2 .given .1) ∙ c .before .before .before .interpret .ensures)
+returns-2 c = (
+  counted-refused _ Unknown unknownLabel _ (c .refuse-line2 .ensures) refl (λ (z : _≡_ {A = ℕ} unknownLabel noRefusal). omega arith)
+      ∙ ap (lineCounted _) (sym (c .before .enum-told2 .given .1) ∙ c .before .before .before .interpret .ensures),
+  search needs,
+)
 
 returns-3 : tie.Need-returns-3
 returns-3 c =
-    let call = c .before .before .before .before .before .before .before .before .before .before in
-    let told = call .before .before .before .before .before .before .before in
-    call .take-request .ensures ∙ ap (lineCounted _) (sym (told .meaning .given .1) ∙ told .before .before .interpret .ensures)
+    let call = c .before .before .before .before .before .before .before .before .before .before .before .before in
+    let told = call .before .before .before .before .before .before .before .before in
+    (call .take-request .ensures .0 ∙ ap (lineCounted _) (sym (told .meaning .given .1) ∙ told .before .before .interpret .ensures), call .take-request .ensures .1)
 
 pub end-line-spec : {M : Type 1} → statement M
 end-line-spec =
@@ -39,6 +44,7 @@ end-line-spec =
     (λ c κs. search needs)
     returns
     returns-2
+    (λ c. search needs)
     (λ c. search needs)
     (λ c. search needs)
     (λ c. search needs)

@@ -1,5 +1,6 @@
 -- A refused request stops the count (`counted-refused`). One that is not refused is valid and there is room for it (`request-passed`), so it
 -- can be served and entered (`bill-spent`), the line number has a next one, and the count goes on (`counted-taken`).
+-- The masks stay with the tables, or are what `serve` leaves.
 use mathlib.Core.Path.{_≡_, sym, _∙_}
 use native.Mathlib.Omega.{arith}
 use borrow.Author.Needs.{needs}
@@ -18,33 +19,34 @@ request-refusal-requires c κs = rw (c .trace-setup .ensures) trace-fits
 
 returns : tie.Need-returns
 returns c =
-    counted-refused _ _ _ _ (c .refuse-line .ensures) (rw (c .before .before .before .trace-setup .ensures) at (c .before .before .request-refusal .ensures)) (c .before .if1 .taken)
+    (counted-refused _ _ _ _ (c .refuse-line .ensures) (rw (c .before .before .before .trace-setup .ensures) at (c .before .before .request-refusal .ensures)) (c .before .if1 .taken), search needs)
 
 -- the request is not refused
-passes : (c : tie.Else1) → requestRefusal traceSetup (c .before .before .before .before .before .before .before .before .before .args .count .account .requests) (c .before .before .before .before .before .before .before .before .before .args .request) ≡ noRefusal
+passes : (c : tie.Else1) → requestRefusal traceSetup (c .before .before .before .before .before .before .before .before .before .before .args .count .account .requests) (c .before .before .before .before .before .before .before .before .before .before .args .request) ≡ noRefusal
 passes c = sym (rw (c .before .before .trace-setup .ensures) at (c .before .request-refusal .ensures)) ∙ c .if1 .left
 
 serve-requires : tie.Need-serve-requires
 serve-requires c κs =
-    let e = c .before .before .before .before .before in
-    rw (e .before .before .trace-setup .ensures) (trace-fits, (request-passed traceSetup _ _ (passes e) .0, e .before .before .before .before .before .before .before .before .before .pre .tables))
+    let e = c .before .before .before .before .before .before in
+    let start = e .before .before .before .before .before .before .before .before .before .before in
+    rw (e .before .before .trace-setup .ensures) (trace-fits, (request-passed traceSetup _ _ (passes e) .0, (start .pre .0 .tables, start .pre .1)))
 
-add-t25 : tie.Need-add-t25
-add-t25 c =
-    let e = c .before .before .before .before .before .before .before .before .before .before .before .before .before .before .before .before .before .before .before in
-    omega (arith, e .before .before .before .before .before .before .before .before .before .pre .line-number, request-passed traceSetup _ _ (passes e) .1)
+add-t28 : tie.Need-add-t28
+add-t28 c =
+    let e = c .before .before .before .before .before .before .before .before .before .before .before .before .before .before .before .before .before .before .before .before .before .before in
+    omega (arith, e .before .before .before .before .before .before .before .before .before .before .pre .0 .line-number, request-passed traceSetup _ _ (passes e) .1)
 
 enter-requires : tie.Need-enter-requires
 enter-requires c κs =
-    let e = c .before .before .before .before .before .before .before .before .before .before .before .before .before .before .before .before .before .before .before in
-    let served = rw (e .before .before .trace-setup .ensures) at (c .before .before .before .before .before .before .before .before .before .before .before .before .before .serve .ensures) in
-    (request-passed traceSetup _ _ (passes e) .1, (e .before .before .before .before .before .before .before .before .before .pre .account, rw (served .1 .0) (bill-spent traceSetup trace-fits _ _)))
+    let e = c .before .before .before .before .before .before .before .before .before .before .before .before .before .before .before .before .before .before .before .before .before .before in
+    let served = rw (e .before .before .trace-setup .ensures) at (c .before .before .before .before .before .before .before .before .before .before .before .before .before .before .before .serve .ensures) in
+    (request-passed traceSetup _ _ (passes e) .1, (e .before .before .before .before .before .before .before .before .before .before .pre .0 .account, rw (served .1 .0) (bill-spent traceSetup trace-fits _ _)))
 
 returns-2 : tie.Need-returns-2
 returns-2 c =
-    let e = c .before .before .before .before .before .before .before .before .before .before .before .before .before .before .before .before .before .before .before .before in
-    let served = rw (e .before .before .trace-setup .ensures) at (c .before .before .before .before .before .before .before .before .before .before .before .before .before .before .serve .ensures) in
-    counted-taken _ _ _ (c .before .before .new .ensures) _ (served .1 .0) _ (c .enter .ensures) _ (served .1 .1) (passes e)
+    let e = c .before .before .before .before .before .before .before .before .before .before .before .before .before .before .before .before .before .before .before .before .before .before .before in
+    let served = rw (e .before .before .trace-setup .ensures) at (c .before .before .before .before .before .before .before .before .before .before .before .before .before .before .before .before .serve .ensures) in
+    (counted-taken _ _ _ (c .before .before .new .ensures) _ (served .1 .0) _ (c .enter .ensures) _ (served .1 .1 .0) (passes e), served .1 .1 .1)
 
 pub take-request-spec : {M : Type 1} → statement M
 take-request-spec =
@@ -56,8 +58,9 @@ take-request-spec =
     returns
     serve-requires
     (λ c κs. search needs)
-    add-t25
+    add-t28
     enter-requires
+    (λ c. search needs)
     (λ c. search needs)
     (λ c. search needs)
     (λ c. search needs)

@@ -6,12 +6,12 @@ use Rattle.trace_report.proofs.read_report.Statement.{statement}
 use Rattle.trace_report.proofs.read_report.Tie as tie
 
 finish-requires : tie.Need-finish-requires
-finish-requires c κs = countable-reached _ (c .before .before .before .before .before .before .before .before .before .before .before .before .before .before .before .before .before .read-all .ensures)
+finish-requires c κs = (countable-reached _ (c .before .before .before .before .before .before .before .before .before .before .before .before .before .before .before .before .before .before .before .before .read-all .ensures .0), search needs)
 
 returns : tie.Need-returns
 returns c =
-    let call = c .before .before .before .before .before .before .before .before .before .before in
-    reached-reported _ _ _ (call .before .before .before .before .before .before .before .before .before .before .before .before .before .before .before .before .before .before .read-all .ensures) refl (call .finish .ensures)
+    let call = c .before .before .before .before .before .before .before .before .before .before .before .before in
+    reached-reported _ _ _ (call .before .before .before .before .before .before .before .before .before .before .before .before .before .before .before .before .before .before .before .before .before .read-all .ensures .0) refl (call .finish .ensures .0)
 
 pub read-report-spec : {M : Type 1} → statement M
 read-report-spec =
@@ -21,6 +21,7 @@ read-report-spec =
     (λ c. search needs)
     (λ c κs. search needs)
     finish-requires
+    (λ c. search needs)
     (λ c. search needs)
     (λ c. search needs)
     (λ c. search needs)

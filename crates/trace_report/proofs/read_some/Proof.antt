@@ -4,7 +4,7 @@ use Rattle.trace_report.proofs.read_some.Statement.{statement}
 use Rattle.trace_report.proofs.read_some.Tie as tie
 
 returns : tie.Need-returns
-returns c = record { got = _; is = c .before .before .before .before .before .before .before .before .before .before .count-read .ensures }
+returns c = (record { got = _; is = c .before .before .before .before .before .before .before .before .before .before .before .before .count-read .ensures .0 }, search needs)
 
 pub read-some-spec : {M : Type 1} → statement M
 read-some-spec =
@@ -12,6 +12,7 @@ read-some-spec =
     (tie.spec
     (λ c κs. search needs)
     (λ c κs. search needs)
+    (λ c. search needs)
     (λ c. search needs)
     (λ c. search needs)
     (λ c. search needs)

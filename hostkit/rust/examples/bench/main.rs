@@ -1,5 +1,5 @@
-//! Requests per second through `run`, beside a plain engine in the same process. Both serve the
-//! same lists in turn; the least time of each counts. Then generated lists, likewise.
+//! Requests per second through `run`, beside a plain engine without masks in the same process. Both
+//! serve the same lists in turn; the least time of each counts. Then generated lists, likewise.
 
 #[path = "../../tests/clock/mod.rs"]
 mod clock;
@@ -24,6 +24,21 @@ const LARGE: Setup = Setup {
     write_back_price: 16,
 };
 
+/// With as many blocks as lines: nothing is evicted, and most blocks are held by most processors.
+fn few_blocks(setup: Setup) -> Setup {
+    Setup {
+        block_count: setup.lines,
+        ..setup
+    }
+}
+
+fn of_8(setup: Setup) -> Setup {
+    Setup {
+        processors: 8,
+        ..setup
+    }
+}
+
 /// A xorshift64* generator.
 struct Draw(u64);
 
@@ -37,9 +52,25 @@ impl Draw {
     }
 }
 
-/// A request: four of ten go to a shared eighth of the variables, the rest to the processor's own
-/// part; one of three writes.
-fn request(draw: &mut Draw, setup: Setup) -> Request {
+/// What is asked for: its name in a row, and how one request is drawn.
+struct Mix {
+    name: &'static str,
+    request: fn(&mut Draw, Setup) -> Request,
+}
+
+const PARTED: Mix = Mix {
+    name: "",
+    request: parted,
+};
+
+const ANYWHERE: Mix = Mix {
+    name: ", half writes anywhere",
+    request: anywhere,
+};
+
+/// Four of ten requests go to a shared eighth of the variables, the rest to the processor's own part;
+/// one of three writes.
+fn parted(draw: &mut Draw, setup: Setup) -> Request {
     let variables = setup.block_count * setup.block_words;
     let shared = variables / 8;
     let own = (variables - shared) / setup.processors;
@@ -49,6 +80,16 @@ fn request(draw: &mut Draw, setup: Setup) -> Request {
         false => shared + processor * own + draw.below(own),
     });
     match draw.below(3) {
+        0 => Request::write(processor, variable, draw.below(u32::MAX)),
+        _ => Request::read(processor, variable),
+    }
+}
+
+/// Any processor and any variable; one of two requests writes.
+fn anywhere(draw: &mut Draw, setup: Setup) -> Request {
+    let processor = draw.below(setup.processors);
+    let variable = Variable(draw.below(setup.block_count * setup.block_words));
+    match draw.below(2) {
         0 => Request::write(processor, variable, draw.below(u32::MAX)),
         _ => Request::read(processor, variable),
     }
@@ -111,7 +152,8 @@ fn least(setup: Setup, lists: &[Vec<Request>], times: u32) -> (Duration, Duratio
     let mut least = (Duration::MAX, Duration::MAX);
     for _ in 0..times {
         let (archive, left) = timed(through_archive, setup, lists);
-        let (plain, same) = timed(through_plain, setup, lists);
+        let (plain, mut same) = timed(through_plain, setup, lists);
+        same.tables.fill_masks(setup);
         assert_eq!(left, same, "both engines leave the same behind");
         least = (least.0.min(archive), least.1.min(plain));
     }
@@ -130,19 +172,21 @@ fn name(setup: Setup) -> String {
     format!("N {n} L {l} p {p} M {m} f {f} g {g}")
 }
 
-fn measure(setup: Setup, requests: usize, run_length: usize, times: u32) -> f64 {
+fn measure(setup: Setup, mix: &Mix, requests: usize, run_length: usize, times: u32) -> f64 {
     // Neither engine is compiled for the numbers of one setup.
     let setup = black_box(setup);
     let mut draw = Draw(1988);
+    let mut request = || (mix.request)(&mut draw, setup);
     let lists: Vec<Vec<Request>> = (0..requests / run_length)
-        .map(|_| (0..run_length).map(|_| request(&mut draw, setup)).collect())
+        .map(|_| (0..run_length).map(|_| request()).collect())
         .collect();
     let (archive, plain) = least(setup, &lists, times);
     let rate = |time: Duration| requests as f64 / time.as_secs_f64() / 1e6;
     let ratio = archive.as_secs_f64() / plain.as_secs_f64();
     println!(
-        "{}, runs of {run_length:>7}: archive {:8.3} million requests/s, plain {:8.3}, ratio {ratio:.3}",
+        "{}{}, runs of {run_length:>7}: archive {:8.3} million requests/s, plain {:8.3}, ratio {ratio:.3}",
         name(setup),
+        mix.name,
         rate(archive),
         rate(plain)
     );
@@ -160,13 +204,23 @@ fn main() {
         .nth(1)
         .map_or(15, |text| text.parse().expect("how often"));
     println!("least time of {times} each, in turn");
-    let ratio = measure(SMALL, 1_000_000, 1_000_000, times);
-    measure(SMALL, 1_000_000, 1_000, times);
-    measure(SMALL, 100_000, 1, times);
-    measure(LARGE, 1_000_000, 1_000_000, times);
-    measure(LARGE, 1_000_000, 1_000, times);
-    measure(LARGE, 5_000, 1, times);
+    let ratio = measure(SMALL, &PARTED, 1_000_000, 1_000_000, times);
+    measure(SMALL, &PARTED, 1_000_000, 1_000, times);
+    measure(SMALL, &PARTED, 100_000, 1, times);
+    measure(LARGE, &PARTED, 1_000_000, 1_000_000, times);
+    measure(LARGE, &PARTED, 1_000_000, 1_000, times);
+    measure(LARGE, &PARTED, 5_000, 1, times);
     judge("runs", ratio, BAR);
+    for setup in [
+        few_blocks(SMALL),
+        few_blocks(of_8(SMALL)),
+        few_blocks(LARGE),
+        of_8(SMALL),
+        LARGE,
+    ] {
+        measure(setup, &ANYWHERE, 1_000_000, 1_000_000, times);
+        measure(setup, &ANYWHERE, 1_000_000, 1_000, times);
+    }
     let ratio = generator::measure(SMALL, 1_000_000, 1_000_000, times);
     generator::measure(SMALL, 1_000_000, 1_000, times);
     generator::measure(SMALL, 1_000_000, 1, times);

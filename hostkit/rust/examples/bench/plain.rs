@@ -1,5 +1,5 @@
-//! The engine in plain Rust, with no proof: the yardstick. The same flat tables, the same checks,
-//! the same soundness scan before each run.
+//! The engine in plain Rust, with no proof: the yardstick. The same flat tables but no masks, the same
+//! checks, the same soundness scan before each run.
 
 use cuzkelor::{Account, Setup, Tables};
 

@@ -22,6 +22,8 @@ fn marked_and_unmarked_blocks() {
         table[8..16].fill(0);
     }
     after.words[32..64].fill(0);
+    assert_eq!(after.masks[..11], [2, 0, 0, 2, 0, 0, 0, 6, 0, 0, 4]);
+    after.masks[..11].copy_from_slice(&[0, 0, 0, 0, 0, 0, 0, 4, 0, 0, 4]);
     assert_eq!(host.clear(1), (0, [0, 2 * 4, 0]));
     assert_eq!(host.tables, after);
     assert_eq!(host.clear(1), (0, [0, 0, 0]));

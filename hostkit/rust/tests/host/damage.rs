@@ -1,5 +1,6 @@
-//! Damaged tables. Each kind breaks one fact of soundness and no other, where it finds a line for
-//! it; then a run is refused by 20. Harmless changes are no damage, and a run goes on from them.
+//! Damaged tables and masks. Each kind breaks one fact of soundness and no other, where it finds a
+//! line for it; then a run is refused by 20. Harmless changes are no damage, and a run goes on from
+//! them.
 
 use crate::draw::Draw;
 use crate::lend;
@@ -12,7 +13,7 @@ use std::collections::BTreeMap;
 /// Changes the tables; false where no line is fit for it.
 type Change = fn(&mut Draw, Board, &mut Tables) -> bool;
 
-const DAMAGES: [(&str, Change); 12] = [
+const DAMAGES: [(&str, Change); 17] = [
     ("counter over f", counter_over_f),
     ("empty line with a block", empty_line_with_a_block),
     ("empty line with a mark", empty_line_with_a_mark),
@@ -25,6 +26,11 @@ const DAMAGES: [(&str, Change); 12] = [
     ("marked, another holder", marked_another_holder),
     ("copy unlike memory", copy_unlike_memory),
     ("memory unlike a copy", memory_unlike_a_copy),
+    ("bit of a holder missing", bit_missing),
+    ("bit of another processor", bit_of_another),
+    ("bit at or above N", bit_above_n),
+    ("bit of a block that none holds", bit_of_an_unheld_block),
+    ("bit of another block in the line", bit_of_another_block),
 ];
 
 const CHANGES: [(&str, Change); 4] = [
@@ -67,6 +73,20 @@ fn line_by_holders(draw: &mut Draw, tables: &Tables, lone: bool) -> Option<usize
     })
 }
 
+/// Makes the masks say again what the lines say, sound or not: which block below M each copy is of,
+/// in whatever line it stands or, where that differs, in the block's own line alone.
+fn retell(draw: &mut Draw, board: Board, tables: &mut Tables) {
+    let own_line_alone = draw.chance(50);
+    tables.masks.fill(0);
+    for at in 0..tables.blocks.len() {
+        let (block, line) = (tables.blocks[at], at as u32 % board.l);
+        let elsewhere = own_line_alone && block % board.l != line;
+        if tables.counters[at] > 0 && block < board.m && !elsewhere {
+            tables.masks[block as usize] |= 1 << (at as u32 / board.l);
+        }
+    }
+}
+
 fn any_word(draw: &mut Draw, board: Board, at: usize) -> usize {
     at * board.p as usize + draw.index(board.p as usize)
 }
@@ -103,12 +123,13 @@ fn empty_line_with_a_word(draw: &mut Draw, board: Board, tables: &mut Tables) ->
     true
 }
 
-fn counter_cleared_alone(draw: &mut Draw, _: Board, tables: &mut Tables) -> bool {
+fn counter_cleared_alone(draw: &mut Draw, board: Board, tables: &mut Tables) -> bool {
     let named = |at| tables.counters[at] > 0 && tables.blocks[at] > 0;
     let Some(at) = line(draw, tables, named) else {
         return false;
     };
     tables.counters[at] = 0;
+    retell(draw, board, tables);
     true
 }
 
@@ -119,6 +140,7 @@ fn block_not_below_m(draw: &mut Draw, board: Board, tables: &mut Tables) -> bool
     while tables.blocks[at] < board.m {
         tables.blocks[at] += board.l;
     }
+    retell(draw, board, tables);
     true
 }
 
@@ -134,6 +156,7 @@ fn block_in_another_line(draw: &mut Draw, board: Board, tables: &mut Tables) -> 
     tables.blocks[at] = block;
     tables.counters[at] = board.f;
     tables.words[at * p..][..p].copy_from_slice(&tables.memory[block as usize * p..][..p]);
+    retell(draw, board, tables);
     true
 }
 
@@ -181,6 +204,59 @@ fn memory_unlike_a_copy(draw: &mut Draw, board: Board, tables: &mut Tables) -> b
     true
 }
 
+fn bit_missing(draw: &mut Draw, board: Board, tables: &mut Tables) -> bool {
+    let Some(at) = line(draw, tables, |at| tables.counters[at] > 0) else {
+        return false;
+    };
+    tables.masks[tables.blocks[at] as usize] &= !(1 << (at as u32 / board.l));
+    true
+}
+
+/// A bit of a held block, for a processor below N that does not hold it.
+fn bit_of_another(draw: &mut Draw, board: Board, tables: &mut Tables) -> bool {
+    let Some(at) = line(draw, tables, |at| tables.counters[at] > 0) else {
+        return false;
+    };
+    let bit = 1 << draw.below(board.n);
+    let mask = &mut tables.masks[tables.blocks[at] as usize];
+    let other = *mask & bit == 0;
+    *mask |= bit;
+    other
+}
+
+fn bit_above_n(draw: &mut Draw, board: Board, tables: &mut Tables) -> bool {
+    if board.n == 8 {
+        return false;
+    }
+    let at = draw.index(tables.masks.len());
+    tables.masks[at] |= 1 << draw.within(board.n, 7);
+    true
+}
+
+fn bit_of_an_unheld_block(draw: &mut Draw, board: Board, tables: &mut Tables) -> bool {
+    let block = draw.below(board.m);
+    tables.masks[block as usize] |= 1 << draw.below(board.n);
+    holder_count(tables, block) == 0
+}
+
+/// A holder's bit, at another block of the same line: as if an eviction had not been noted.
+fn bit_of_another_block(draw: &mut Draw, board: Board, tables: &mut Tables) -> bool {
+    let Some(at) = line(draw, tables, |at| tables.counters[at] > 0) else {
+        return false;
+    };
+    let others = (0..board.m).filter(|&other| {
+        let held = tables.blocks[at];
+        other != held && board.collide(other, held)
+    });
+    let others: Vec<u32> = others.collect();
+    if others.is_empty() {
+        return false;
+    }
+    let other = draw.pick(&others) as usize;
+    tables.masks[other] |= 1 << (at as u32 / board.l);
+    true
+}
+
 fn word_of_a_marked_copy(draw: &mut Draw, board: Board, tables: &mut Tables) -> bool {
     let Some(at) = marked_line(draw, tables) else {
         return false;
@@ -214,8 +290,13 @@ fn lone_copy_marked(draw: &mut Draw, board: Board, tables: &mut Tables) -> bool 
     true
 }
 
-/// Any cell of any table, to anything.
+/// Any cell of any table, or any mask, to anything.
 fn any_cell(draw: &mut Draw, tables: &mut Tables) {
+    if draw.chance(15) {
+        let at = draw.index(tables.masks.len());
+        tables.masks[at] = draw.pick(&[0, 1, 2, 3, 255]);
+        return;
+    }
     let table = match draw.below(5) {
         0 => &mut tables.blocks,
         1 => &mut tables.counters,

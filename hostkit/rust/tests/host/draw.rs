@@ -60,6 +60,10 @@ impl Draw {
         (0..length).map(|_| self.word()).collect()
     }
 
+    pub fn bytes(&mut self, length: usize) -> Vec<u8> {
+        (0..length).map(|_| self.below(256) as u8).collect()
+    }
+
     /// A value to write: also 0, which empty lines show too.
     fn value(&mut self) -> u32 {
         match self.below(4) {

@@ -29,6 +29,7 @@ pub fn garbage(draw: &mut Draw, board: Board) -> Tables {
         marks: draw.words(lines),
         words: draw.words(words),
         memory: draw.words(memory),
+        masks: draw.bytes(board.m as usize),
     }
 }
 
@@ -41,8 +42,20 @@ pub fn rival_garbage(draw: &mut Draw, board: Board) -> RivalTables {
     }
 }
 
-/// Gives one table another length.
+/// Gives one table or the masks another length.
 pub fn wrong_length(draw: &mut Draw, tables: &mut Tables) {
+    match draw.below(6) {
+        0 => wrong_mask_length(draw, tables),
+        _ => wrong_table_length(draw, tables),
+    }
+}
+
+pub fn wrong_mask_length(draw: &mut Draw, tables: &mut Tables) {
+    let length = draw.wrong_length(tables.masks.len());
+    tables.masks.resize(length, 0);
+}
+
+pub fn wrong_table_length(draw: &mut Draw, tables: &mut Tables) {
     let table = match draw.below(5) {
         0 => &mut tables.blocks,
         1 => &mut tables.counters,

@@ -10,6 +10,7 @@ mod draw;
 mod generated;
 mod lend;
 mod looks;
+mod masks;
 mod model;
 #[path = "../../examples/bench/plain.rs"]
 mod plain;

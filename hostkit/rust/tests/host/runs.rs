@@ -1,5 +1,5 @@
 //! Random lists of runs. Each call is compared with what the model says of whatever was lent: the
-//! answer, the five tables, the account and the values.
+//! answer, the five tables, the masks, the account and the values.
 
 use crate::draw::Draw;
 use crate::lend;
@@ -10,13 +10,14 @@ use crate::tally::{Clears, Prices, Tally};
 use cuzkelor::{raw, Account, Request, Tables};
 use std::collections::BTreeMap;
 
-/// Whether condition 2 meets tables on a setup in range.
+/// Whether condition 2 meets tables and masks on a setup in range.
 pub fn wrong_lengths(board: Board, tables: &Tables) -> bool {
     let (lines, words, memory) = sizes(board);
     let per_line = [&tables.blocks, &tables.counters, &tables.marks];
     per_line.iter().any(|table| table.len() != lines)
         || tables.words.len() != words
         || tables.memory.len() != memory
+        || tables.masks.len() != board.m as usize
 }
 
 /// What is lent to a run.
@@ -82,8 +83,9 @@ fn safe_run(board: Board, lent: &mut Lent, requests: &[Request]) -> Outcome {
     }
 }
 
-/// Calls the archive itself, with out-parameters that hold anything before.
-fn raw_run(board: Board, lent: &mut Lent, numbers: &[u32]) -> Outcome {
+/// Calls the archive itself, with out-parameters that hold anything before, and with masks that may
+/// lie anywhere.
+pub fn raw_run(board: Board, lent: &mut Lent, masks: &mut [u8], numbers: &[u32]) -> Outcome {
     let (tables, account) = (&mut lent.tables, &mut lent.account);
     let (mut taken, mut place) = (0x5555, 0xaaaa);
     // SAFETY: owned buffers with their lengths, apart from each other.
@@ -105,6 +107,8 @@ fn raw_run(board: Board, lent: &mut Lent, numbers: &[u32]) -> Outcome {
             tables.words.len(),
             tables.memory.as_mut_ptr(),
             tables.memory.len(),
+            masks.as_mut_ptr(),
+            masks.len(),
             &mut account.requests,
             &mut account.fetch,
             &mut account.write_back,
@@ -137,7 +141,9 @@ pub fn compared(board: Board, lent: &mut Lent, asks: &[Ask]) -> Outcome {
 /// The same with numbers that name the requests, or that are no whole list of requests.
 fn compared_numbers(board: Board, lent: &mut Lent, asks: &[Ask], numbers: &[u32]) -> Outcome {
     let (outcome, after) = expected(board, lent, asks, numbers);
-    let answered = raw_run(board, lent, numbers);
+    let mut masks = std::mem::take(&mut lent.tables.masks);
+    let answered = raw_run(board, lent, &mut masks, numbers);
+    lent.tables.masks = masks;
     assert_eq!(answered, outcome, "the answer on {board:?} to {numbers:?}");
     assert_eq!(*lent, after, "what was lent on {board:?} to {numbers:?}");
     outcome
@@ -183,7 +189,7 @@ fn first_account(draw: &mut Draw, board: Board) -> Account {
 }
 
 /// An account that 21 meets, often by 1. Where no 32 bits are over a limit, another one is passed.
-fn impossible_account(draw: &mut Draw, board: Board) -> Account {
+pub fn impossible_account(draw: &mut Draw, board: Board) -> Account {
     let requests = match draw.below(4) {
         0 => 0,
         1 => draw.below(1_000_001),
@@ -333,7 +339,10 @@ impl List {
             }
         }
         if causes & 8 != 0 {
-            lent.tables.counters.fill(self.board.f + 1);
+            match draw.chance(50) {
+                true => lent.tables.counters.fill(self.board.f + 1),
+                false => lent.tables.masks.iter_mut().for_each(|mask| *mask ^= 1),
+            }
         }
         if causes & 16 != 0 {
             lent.account = impossible_account(draw, self.board);
@@ -444,8 +453,8 @@ fn operation_numbers() {
     }
 }
 
-/// The plain engine of the bench does what the archive does, also with clears, which no timed list
-/// has.
+/// The plain engine of the bench does what the archive does, without masks; also with clears, which no
+/// timed list has.
 #[test]
 fn plain_engine() {
     let mut draw = Draw::for_test("plain engine");
@@ -477,6 +486,7 @@ fn plain_engine() {
             refusal,
             place,
         };
+        same.tables.fill_masks(lend::setup(board));
         assert_eq!((answered, same), (outcome, lent), "{board:?}, {asks:?}");
         tally.count(refusal);
     }

@@ -201,6 +201,8 @@ fn write_over(counters: [u32; 4], writer: u32) {
     for (at, counter) in host.tables.counters.iter_mut().step_by(8).zip(counters) {
         *at = counter;
     }
+    let holders = (0..4).filter(|&i| counters[i] > 0);
+    host.tables.masks[0] = holders.map(|i| 1 << i).sum();
     let payer = (0..4)
         .filter(|&i| i != writer && counters[i as usize] > 0)
         .min_by_key(|&i| counters[i as usize]);

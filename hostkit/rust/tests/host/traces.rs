@@ -14,9 +14,13 @@ fn told(bytes: &[u8], tables: &mut Tables) -> (Account, u32, u32) {
     }
 }
 
-/// Counts a trace through the archive, on tables that hold anything, and compares.
+/// Counts a trace through the archive, on tables that hold anything, and compares. Masks play no part
+/// before it, and are true after it.
 fn compared(draw: &mut Draw, bytes: &[u8], counted: &Counted) -> u32 {
     let mut tables = lend::garbage(draw, counted.caches.board);
+    if draw.chance(30) {
+        lend::wrong_mask_length(draw, &mut tables);
+    }
     let told = told(bytes, &mut tables);
     let account = lend::account(counted.account);
     let end = String::from_utf8_lossy(&bytes[bytes.len().saturating_sub(400)..]);
@@ -193,7 +197,7 @@ fn wrong_lengths() {
     let board = count(b"").caches.board;
     for _ in 0..1_000 {
         let mut tables = lend::garbage(&mut draw, board);
-        lend::wrong_length(&mut draw, &mut tables);
+        lend::wrong_table_length(&mut draw, &mut tables);
         let before = tables.clone();
         let told = told(&trace(&mut draw), &mut tables);
         assert_eq!((told, tables), ((Account::default(), 2, 0), before));

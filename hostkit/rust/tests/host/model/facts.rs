@@ -7,7 +7,7 @@ use cuzkelor::{RivalTables, Tables};
 use std::collections::BTreeMap;
 
 /// The lengths of block numbers, words and memory that condition 2 wants; counters and marks are as
-/// long as block numbers.
+/// long as block numbers, and there are as many masks as blocks.
 pub fn sizes(board: Board) -> (usize, usize, usize) {
     let [n, l, p, m] = [board.n, board.l, board.p, board.m].map(|number| number as usize);
     (n * l, n * l * p, m * p)
@@ -60,7 +60,16 @@ pub fn read(board: Board, tables: &Tables) -> Option<Caches> {
     }
     let mut copies = caches.copies.iter();
     let sound = copies.all(|(&(_, block), copy)| agrees(&caches, block, copy));
-    sound.then_some(caches)
+    (sound && tables.masks == masks(&caches)).then_some(caches)
+}
+
+/// Who holds each block, as bits.
+pub fn masks(caches: &Caches) -> Vec<u8> {
+    let mut masks = vec![0; caches.board.m as usize];
+    for &(i, block) in caches.copies.keys() {
+        masks[block as usize] |= 1 << i;
+    }
+    masks
 }
 
 /// The tables that show some facts.
@@ -72,6 +81,7 @@ pub fn shown(caches: &Caches) -> Tables {
         marks: vec![0; lines],
         words: vec![0; words],
         memory: caches.memory.values().flatten().copied().collect(),
+        masks: masks(caches),
     };
     for (&(i, block), copy) in &caches.copies {
         let at = (i * caches.board.l + block % caches.board.l) as usize;

@@ -9,7 +9,7 @@ mod rival;
 
 pub use din::{count, Counted};
 pub use engine::{Caches, Ledger, Outcome};
-pub use facts::{read, rival_shown, shown, sizes};
+pub use facts::{masks, read, rival_shown, shown, sizes};
 pub use generator::{draws, generate};
 pub use rival::{price, Move, Rival};
 
