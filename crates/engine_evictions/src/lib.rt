@@ -127,17 +127,7 @@ pub fn clear(
     let mut cycles = 0;
     for l in 0..n {
         let k = setup.line_slot(i, l);
-        cycles += evict(
-            setup,
-            i,
-            k,
-            blocks,
-            counters,
-            marks,
-            words,
-            memory,
-            masks,
-        );
+        cycles += evict(setup, i, k, blocks, counters, marks, words, memory, masks);
     }
     cycles
 }

@@ -121,7 +121,7 @@ fn lines_sound(
     i == n
 }
 
-// The mask of the processors below i that hold a block, with that of processor i.
+// A mask, with the weight of processor i added if it holds a block.
 fn add_holder(setup: Setup, block: Block, mask: u8, i: u8, blocks: &[u32], counters: &[u32]) -> u8
     requires { ⌜ Fits setup ⌝ }
     requires { ⌜ i < setup .processors ⌝ }

@@ -39,7 +39,7 @@ module _ (s : Setup) (x : Masked) where
   unfolding startRefusal started
   start-filled r l = (sym (rw (r, l)), sym (rw (r, l)))
 
--- ---- tests
+  -- ---- tests
 
   pub sized-is : sizedMasked s x
       ≡ lengthsFit s (length (x .tables .blocks)) (length (x .tables .counters)) (length (x .tables .marks)) (length (x .tables .words)) (length (x .tables .memory)) (length (x .masks))

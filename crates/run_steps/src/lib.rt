@@ -105,7 +105,16 @@ pub fn turn<'a>(
     if refusal != protocol_types::NO_REFUSAL {
         return run_progress::stop(p, refusal);
     }
-    let served = engine::serve(setup, request, blocks, counters, marks, words, memory, masks);
+    let served = engine::serve(
+        setup,
+        request,
+        blocks,
+        counters,
+        marks,
+        words,
+        memory,
+        masks,
+    );
     let next = taken + 1;
     values[taken] = served.value;
     let more = served.bill;

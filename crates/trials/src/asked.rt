@@ -1,5 +1,5 @@
-// The entries, called over the real tables: each table is copied to an array of its own, a part of which, as long as the
-// case wants it, is lent, and then copied back. Lists are lent in the same way.
+// The entries, called over the real tables: each table is copied to an array of its own, the masks to one of bytes, a part
+// of which, as long as the case wants it, is lent, and then copied back. Lists are lent in the same way.
 use crate::layout::ENTRIES;
 use crate::layout::REAL;
 use crate::layout::REQUESTS;
@@ -22,6 +22,13 @@ ghost use lib.ListN.{length};
 pub const ROOM: usize = 8200;
 
 pub type Table = [u32; ROOM];
+
+// Room for the most masks and a few more.
+const MASK_ROOM: usize = 264;
+
+pub type Masks = [u8; MASK_ROOM];
+
+const REAL_MASKS: u32 = REAL + lent::MASKS;
 
 // What an entry answered, or the model; 0 and a fresh account stand where a kind has no such part.
 pub struct Answer {
@@ -110,6 +117,57 @@ fn back(cells: &mut Cells, table: u32, from: &Table) {
     }
 }
 
+fn set_mask(masks: &mut [u8], k: u32, x: u32) {
+    let i = k as usize;
+    if i < masks.len() {
+        masks[i] = (x % 256) as u8;
+    }
+}
+
+fn wide(byte: u8) -> u32 {
+    byte as u32
+}
+
+fn mask_at(masks: &Masks, k: u32) -> u32 {
+    let i = k as usize;
+    if i < MASK_ROOM {
+        return wide(masks[i]);
+    }
+    0
+}
+
+// The n masks go to an array.
+fn fill_masks(cells: &Cells, n: u32, to: &mut [u8]) {
+    let mut k = 0;
+    while k < n {
+        set_mask(to, k, get(cells, REAL_MASKS, k));
+        k += 1;
+    }
+}
+
+// The masks go to an array: how many of them are lent.
+fn lend_masks(cells: &Cells, to: &mut Masks) -> usize
+    ensures { λ r. ⌜ r ≤ length (now (to .exit)) ⌝ }
+{
+    let n = lent::length(cells, lent::MASKS_TABLE);
+    fill_masks(cells, n, to);
+    let all = n as usize;
+    if all <= MASK_ROOM {
+        return all;
+    }
+    MASK_ROOM
+}
+
+// The masks come back from their array.
+fn masks_back(cells: &mut Cells, from: &Masks) {
+    let n = lent::length(cells, lent::MASKS_TABLE);
+    let mut k = 0;
+    while k < n {
+        put(cells, REAL_MASKS, k, mask_at(from, k));
+        k += 1;
+    }
+}
+
 fn start(cells: &mut Cells, setup: Setup) -> u32 {
     let view: &Cells = cells;
     let mut blocks = [0u32; ROOM];
@@ -117,11 +175,13 @@ fn start(cells: &mut Cells, setup: Setup) -> u32 {
     let mut marks = [0u32; ROOM];
     let mut words = [0u32; ROOM];
     let mut memory = [0u32; ROOM];
+    let mut masks = [0u8; MASK_ROOM];
     let a = lend_table(view, lent::NUMBERS_TABLE, &mut blocks);
     let b = lend_table(view, lent::COUNTERS_TABLE, &mut counters);
     let c = lend_table(view, lent::MARKS_TABLE, &mut marks);
     let d = lend_table(view, lent::WORDS_TABLE, &mut words);
     let e = lend_table(view, lent::MEMORY_TABLE, &mut memory);
+    let f = lend_masks(view, &mut masks);
     let refusal = engine_tables::start(
         setup,
         &mut blocks[..a],
@@ -129,12 +189,14 @@ fn start(cells: &mut Cells, setup: Setup) -> u32 {
         &mut marks[..c],
         &mut words[..d],
         &mut memory[..e],
+        &mut masks[..f],
     );
     back(cells, lent::NUMBERS_TABLE, &blocks);
     back(cells, lent::COUNTERS_TABLE, &counters);
     back(cells, lent::MARKS_TABLE, &marks);
     back(cells, lent::WORDS_TABLE, &words);
     back(cells, lent::MEMORY_TABLE, &memory);
+    masks_back(cells, &masks);
     refusal
 }
 
@@ -146,6 +208,7 @@ fn run(cells: &mut Cells, setup: Setup, account: Account, n: u32) -> Ran {
     let mut marks = [0u32; ROOM];
     let mut words = [0u32; ROOM];
     let mut memory = [0u32; ROOM];
+    let mut masks = [0u8; MASK_ROOM];
     let mut values = [0u32; ROOM];
     let mut requests = [0u32; ROOM];
     let a = lend_table(view, lent::NUMBERS_TABLE, &mut blocks);
@@ -153,8 +216,9 @@ fn run(cells: &mut Cells, setup: Setup, account: Account, n: u32) -> Ran {
     let c = lend_table(view, lent::MARKS_TABLE, &mut marks);
     let d = lend_table(view, lent::WORDS_TABLE, &mut words);
     let e = lend_table(view, lent::MEMORY_TABLE, &mut memory);
-    let f = lend_table(view, lent::VALUES_TABLE, &mut values);
-    let g = lend(view, REQUESTS, n, &mut requests);
+    let f = lend_masks(view, &mut masks);
+    let g = lend_table(view, lent::VALUES_TABLE, &mut values);
+    let h = lend(view, REQUESTS, n, &mut requests);
     let ran = host_numbers::run(
         setup,
         &mut blocks[..a],
@@ -162,15 +226,17 @@ fn run(cells: &mut Cells, setup: Setup, account: Account, n: u32) -> Ran {
         &mut marks[..c],
         &mut words[..d],
         &mut memory[..e],
+        &mut masks[..f],
         account,
-        &requests[..g],
-        &mut values[..f],
+        &requests[..h],
+        &mut values[..g],
     );
     back(cells, lent::NUMBERS_TABLE, &blocks);
     back(cells, lent::COUNTERS_TABLE, &counters);
     back(cells, lent::MARKS_TABLE, &marks);
     back(cells, lent::WORDS_TABLE, &words);
     back(cells, lent::MEMORY_TABLE, &memory);
+    masks_back(cells, &masks);
     back(cells, lent::VALUES_TABLE, &values);
     ran
 }

@@ -96,6 +96,17 @@ pub(crate) fn other_holder(cells: &Cells, i: u32, b: u32) -> u32 {
     found
 }
 
+// The processors with a copy of block b, bit i for processor i. From the top, each doubles what is there.
+pub(crate) fn holders(cells: &Cells, b: u32) -> u32 {
+    let mut bits = 0;
+    let mut i = PROCESSORS;
+    while i > 0 {
+        i -= 1;
+        bits = sum(product(bits, 2), (counter(cells, i, b) > 0) as u32);
+    }
+    bits
+}
+
 // The smaller of two counters, of which 0 is none.
 fn smaller(a: u32, c: u32) -> u32 {
     if a == 0 {

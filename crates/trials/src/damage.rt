@@ -1,5 +1,8 @@
-// Damage to the real tables: one line changes, or the main memory of its block. Some of it leaves sound tables sound.
+// Damage to the real tables: one line changes, or the main memory of its block, or a mask. Some of it leaves sound tables
+// sound.
+use crate::layout::MOST_PROCESSORS;
 use crate::layout::REAL;
+use crate::layout::WANTED;
 use crate::lent;
 use protocol_types::Setup;
 use trials_cells::cells::Cells;
@@ -8,6 +11,7 @@ use trials_cells::cells::get;
 use trials_cells::cells::less;
 use trials_cells::cells::product;
 use trials_cells::cells::put;
+use trials_cells::cells::quotient;
 use trials_cells::cells::remainder;
 use trials_cells::cells::sum;
 use trials_cells::state::draw;
@@ -20,6 +24,10 @@ const MARKS: u32 = REAL + lent::MARKS;
 const WORDS: u32 = REAL + lent::WORDS;
 
 const MEMORY: u32 = REAL + lent::MEMORY;
+
+const MASKS: u32 = REAL + lent::MASKS;
+
+const WANTED_MASKS: u32 = WANTED + lent::MASKS;
 
 // The first slot from k on that is not empty, in turn; k if all are.
 pub(crate) fn held_slot(cells: &Cells, slots: u32, k: u32) -> u32 {
@@ -93,7 +101,7 @@ fn damaged_slot(cells: &Cells, slots: u32, any: u32, seek: u32) -> u32 {
 }
 
 // Damage to one line, held or empty.
-fn damage(cells: &mut Cells, setup: Setup) {
+fn damage_line(cells: &mut Cells, setup: Setup) {
     let slots = lent::slots(setup);
     let any = draw(cells, slots);
     let seek = draw(cells, 4);
@@ -107,11 +115,56 @@ fn damage(cells: &mut Cells, setup: Setup) {
     copy_slot(cells, setup.words, k, remainder(sum(k, setup.lines), slots));
 }
 
-// Once in a while the tables are damaged.
-pub(crate) fn perhaps_damage(cells: &mut Cells, setup: Setup) {
-    let roll = draw(cells, 4);
-    if roll != 0 {
-        return;
+// The masks become true, if the damaged lines are sound: what the model makes of them.
+fn mend_masks(cells: &mut Cells, setup: Setup) {
+    copy(cells, REAL, WANTED, lent::CELLS);
+    lent::load(cells, setup);
+    lent::lay_masks(cells, setup.blocks);
+    copy(cells, WANTED_MASKS, MASKS, setup.blocks);
+}
+
+// The mask of block b with bit i, of the bits of a byte, the other way.
+fn flip(cells: &mut Cells, b: u32, i: u32) {
+    let mask = get(cells, MASKS, b);
+    put(cells, MASKS, b, mask ^ (1 << i % 8));
+}
+
+// A bit at or above N; that of processor 0 where there is none.
+fn past_processors(cells: &mut Cells, n: u32) -> u32 {
+    let bits = less(MOST_PROCESSORS, n);
+    sum(n, draw(cells, bits))
+}
+
+// Damage to one mask: the bit of a held copy goes, the bit of any processor turns, mostly where it has no copy, a bit of no
+// processor turns, or the mask becomes any byte.
+fn damage_mask(cells: &mut Cells, setup: Setup) {
+    let slots = lent::slots(setup);
+    let any = draw(cells, slots);
+    let i = draw(cells, setup.processors);
+    let past = past_processors(cells, setup.processors);
+    let b = draw(cells, setup.blocks);
+    let x = draw(cells, 256);
+    let how = draw(cells, 4);
+    let k = held_slot(cells, slots, any);
+    let held = remainder(block_at(cells, k), setup.blocks);
+    match how {
+        0 => flip(cells, held, quotient(k, setup.lines)),
+        1 => flip(cells, b, i),
+        2 => flip(cells, b, past),
+        _ => put(cells, MASKS, b, x),
     }
-    damage(cells, setup);
+}
+
+// Once in a while the tables are damaged: a mask, or a line, after which the masks are true or as they were.
+pub(crate) fn perhaps_damage(cells: &mut Cells, setup: Setup) {
+    let roll = draw(cells, 12);
+    match roll {
+        0 => damage_mask(cells, setup),
+        1 => damage_line(cells, setup),
+        2 => {
+            damage_line(cells, setup);
+            mend_masks(cells, setup);
+        }
+        _ => {}
+    }
 }

@@ -34,4 +34,4 @@ pub const VARIABLES: u32 = MOST_BLOCKS * MOST_WORDS;
 // The cells of the facts, and of the tables.
 pub const FACT_CELLS: u32 = PAIRS + MOST_BLOCKS + VARIABLES + VARIABLES;
 
-pub const TABLE_CELLS: u32 = 14128;
+pub const TABLE_CELLS: u32 = 14192;

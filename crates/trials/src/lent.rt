@@ -1,11 +1,13 @@
 // The lent tables, each in room for the largest board and a few cells more: block numbers, counters, marks, words, main
-// memory, and the list of values. They stand twice in the cells; the model's are the wanted ones.
+// memory, masks, a cell for each byte, and the list of values. They stand twice in the cells; the model's are the wanted
+// ones.
 use crate::board;
 use crate::board::BLOCKS;
 use crate::board::PROCESSORS;
 use crate::board::clear;
 use crate::board::counter;
 use crate::board::current;
+use crate::board::holders;
 use crate::board::other_holder;
 use crate::board::owner;
 use crate::board::owns;
@@ -49,14 +51,16 @@ pub const WORDS_TABLE: u32 = 3;
 
 pub const MEMORY_TABLE: u32 = 4;
 
-pub const VALUES_TABLE: u32 = 5;
+pub const MASKS_TABLE: u32 = 5;
+
+pub const VALUES_TABLE: u32 = 6;
 
 // How many of them the pricer, starting and a run are lent.
 pub const PRICED: u32 = 3;
 
-pub const STARTED: u32 = 5;
+pub const STARTED: u32 = 6;
 
-pub const ALL: u32 = 6;
+pub const ALL: u32 = 7;
 
 // Where each table begins after the first, and the cells of all.
 pub const COUNTERS: u32 = 520;
@@ -67,7 +71,11 @@ pub const WORDS: u32 = 1560;
 
 pub const MEMORY: u32 = 9760;
 
-pub const VALUES: u32 = 13864;
+pub const MASKS: u32 = 13864;
+
+pub const VALUES: u32 = 14128;
+
+pub const MASK_CELLS: u32 = VALUES - MASKS;
 
 pub const CELLS: u32 = TABLE_CELLS;
 
@@ -79,6 +87,8 @@ const WANTED_MARKS: u32 = WANTED + MARKS;
 const WANTED_WORDS: u32 = WANTED + WORDS;
 
 const WANTED_MEMORY: u32 = WANTED + MEMORY;
+
+const WANTED_MASKS: u32 = WANTED + MASKS;
 
 const REAL_COUNTERS: u32 = REAL + COUNTERS;
 
@@ -92,6 +102,7 @@ pub(crate) fn table_place(table: u32) -> u32 {
         2 => MARKS,
         3 => WORDS,
         4 => MEMORY,
+        5 => MASKS,
         _ => VALUES,
     }
 }
@@ -115,6 +126,7 @@ fn right_length(setup: Setup, values: u32, table: u32) -> u32 {
         0 | 1 | 2 => slots(setup),
         3 => product(slots(setup), setup.words),
         4 => variables(setup),
+        5 => setup.blocks,
         _ => values,
     }
 }
@@ -322,6 +334,19 @@ pub(crate) fn load(cells: &mut Cells, setup: Setup) -> u32 {
     sum(faults, all_block_faults(cells, setup.fetch_price))
 }
 
+// How many of the n masks do not say who holds the block.
+pub(crate) fn false_masks(cells: &Cells, n: u32) -> u32 {
+    let mut count = 0;
+    let mut b = 0;
+    while b < n {
+        if get(cells, WANTED_MASKS, b) != holders(cells, b) {
+            count = sum(count, 1);
+        }
+        b += 1;
+    }
+    count
+}
+
 // The slot of block b in processor i's cache.
 fn slot(setup: Setup, i: u32, b: u32) -> u32 {
     sum(product(i, setup.lines), remainder(b, setup.lines))
@@ -386,12 +411,27 @@ fn lay_words(cells: &mut Cells, p: u32, n: u32) {
     }
 }
 
+fn lay_mask(cells: &mut Cells, b: u32) {
+    let bits = holders(cells, b);
+    put(cells, WANTED_MASKS, b, bits);
+}
+
+// The n masks become who holds each block.
+pub(crate) fn lay_masks(cells: &mut Cells, n: u32) {
+    let mut b = 0;
+    while b < n {
+        lay_mask(cells, b);
+        b += 1;
+    }
+}
+
 // The tables become what the facts say. They are lent at the right lengths.
 pub(crate) fn lay_out(cells: &mut Cells, setup: Setup) {
     wipe_tables(cells, PRICED);
     lay_lines(cells, setup);
     lay_words(cells, setup.words, product(slots(setup), setup.words));
     copy(cells, board::MEMORY, WANTED_MEMORY, variables(setup));
+    lay_masks(cells, setup.blocks);
 }
 
 // Starting, over lent tables, which become what they should be after it: the refusal number, or 0.

@@ -67,6 +67,11 @@ fn print_sums(cells: &Cells) {
     state::print_cell(cells, b"cycles billed in runs ", state::CYCLES);
     state::print_cell(
         cells,
+        b"runs refused for a false mask alone ",
+        state::FALSE_MASKS,
+    );
+    state::print_cell(
+        cells,
         b"schedules compared with the engine ",
         state::COMPARED,
     );

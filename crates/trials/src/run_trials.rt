@@ -21,6 +21,7 @@ use trials_cells::cells::differences;
 use trials_cells::cells::less;
 use trials_cells::cells::put;
 use trials_cells::cells::quotient;
+use trials_cells::cells::remainder;
 use trials_cells::cells::sum;
 use trials_cells::state;
 use trials_cells::state::draw;
@@ -28,11 +29,18 @@ use trials_cells::state::word;
 
 const REAL_MEMORY: u32 = REAL + lent::MEMORY;
 
-// The n cells from `first` on get a number each, counted from `from`.
-fn scatter(cells: &mut Cells, first: u32, n: u32, from: u32) {
+const REAL_MASKS: u32 = REAL + lent::MASKS;
+
+// Numbers below this are scattered, or below that of a byte.
+const WORDS: u32 = u32::MAX;
+
+const BYTES: u32 = 256;
+
+// The n cells from `first` on get a number below `below` each, counted from `from`.
+fn scatter(cells: &mut Cells, first: u32, n: u32, from: u32, below: u32) {
     let mut k = 0;
     while k < n {
-        put(cells, first, k, sum(from, k));
+        put(cells, first, k, remainder(sum(from, k), below));
         k += 1;
     }
 }
@@ -152,9 +160,10 @@ fn pick_start(cells: &mut Cells, case: u32) -> Setup {
     setup
 }
 
-// Every cell of the real tables gets a number of its own.
+// Every cell of the real tables gets a number of its own; that of a mask is a byte.
 fn scatter_tables(cells: &mut Cells, from: u32) {
-    scatter(cells, REAL, lent::CELLS, from);
+    scatter(cells, REAL, lent::CELLS, from, WORDS);
+    scatter(cells, REAL_MASKS, lent::MASK_CELLS, from, BYTES);
 }
 
 pub(crate) fn start_case(cells: &mut Cells, case: u32) {
@@ -298,13 +307,15 @@ fn pick_series(cells: &mut Cells) -> Series {
     }
 }
 
-// The tables are started, whatever they held. Main memory may hold anything; the started caches are empty.
+// The tables are started, whatever they held, and perhaps damaged. Main memory may hold anything; the started caches are
+// empty.
 fn begin_tables(cells: &mut Cells, setup: Setup, case: u32) {
     let from = word(cells);
     scatter_tables(cells, from);
     lent::put_lengths(cells, setup, 0);
     start_both(cells, setup, case);
-    scatter(cells, REAL_MEMORY, lent::variables(setup), from);
+    scatter(cells, REAL_MEMORY, lent::variables(setup), from, WORDS);
+    damage::perhaps_damage(cells, setup);
 }
 
 // A list goes on, or a new one begins.

@@ -36,6 +36,7 @@ use trials_cells::cells::product;
 use trials_cells::cells::put;
 use trials_cells::cells::quotient;
 use trials_cells::cells::sum;
+use trials_cells::state;
 
 // Where the model's values go.
 const VALUES: u32 = WANTED + lent::VALUES;
@@ -276,7 +277,8 @@ fn take_all(cells: &mut Cells, setup: Setup, n: u32, account: Account) -> Outcom
     so_far
 }
 
-// The refusal of a run of so many numbers as a whole; the facts become what the tables show.
+// The refusal of a run of so many numbers as a whole; the facts become what the tables show. A mask that alone is false is
+// counted.
 fn run_refusal(cells: &mut Cells, setup: Setup, account: Account, numbers: u32) -> u32 {
     let refusal = lent::setup_refusal(setup);
     if refusal != NO_REFUSAL {
@@ -289,6 +291,10 @@ fn run_refusal(cells: &mut Cells, setup: Setup, account: Account, numbers: u32) 
         return WRONG_LENGTH;
     }
     if lent::load(cells, setup) > 0 {
+        return UNSOUND_TABLES;
+    }
+    if lent::false_masks(cells, setup.blocks) > 0 {
+        state::add(cells, state::FALSE_MASKS, 1);
         return UNSOUND_TABLES;
     }
     if impossible(setup, account) {

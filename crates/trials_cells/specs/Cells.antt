@@ -1,5 +1,5 @@
 -- Numbers in cells: sums and quotients that have a value for all numbers, and what is read and written by them.
-use Prim.Native.Nat.{ℕ, zero, suc, _+_, _*_, _-_, _/_, _%_, _^_}
+use Prim.Native.Nat.{ℕ, zero, suc, _+_, _*_, _/_, _%_, _^_}
 use mathlib.Core.Bool.{_&&_, cond}
 use mathlib.Core.List.{List}
 use lib.Dec.{eqb, ltb}
@@ -23,7 +23,7 @@ reduced a b = cond (eqb b 0) 0 (a % b)
 
 -- the number of cells
 abbrev pub size : ℕ
-size = 40484
+size = 40612
 
 -- cell k of the part that begins at f; 0 outside the cells
 unfoldable pub cell : List ℕ → ℕ → ℕ → ℕ

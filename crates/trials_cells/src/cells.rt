@@ -5,7 +5,7 @@ ghost use mathlib.Core.Path.{_≡_};
 ghost use Prim.Native.Nat.{_-_};
 ghost use Rattle.trials_cells.specs.Cells.{summed, multiplied, divided, reduced, cell, with, wiped, copied, unlike, differing};
 
-pub const SIZE: usize = 40484;
+pub const SIZE: usize = 40612;
 
 pub type Cells = [u32; SIZE];
 

@@ -62,6 +62,8 @@ pub const MET: u32 = 7;
 
 pub const MET_UPDATES: u32 = 8;
 
+pub const FALSE_MASKS: u32 = 9;
+
 // The counts of a kind, one for each number, stand after those of the kind before it.
 const COUNTS: u32 = 16;
 

@@ -1,5 +1,5 @@
-// The board of these trials, and what is lent on it, by value: the tables of an engine with the list of values, and the
-// copies of a rival.
+// The board of these trials, and what is lent on it, by value: the tables of an engine with the masks and the list of
+// values, and the copies of a rival.
 use protocol_types::Account;
 use protocol_types::Setup;
 use trials_lending::REQUESTS;
@@ -24,12 +24,15 @@ const ALL_WORDS: usize = (PROCESSORS * LINES * WORDS) as usize;
 
 const ALL_VARIABLES: usize = VARIABLES as usize;
 
+const ALL_BLOCKS: usize = BLOCKS as usize;
+
 pub struct Tables {
     pub blocks: [u32; SLOTS],
     pub counters: [u32; SLOTS],
     pub marks: [u32; SLOTS],
     pub words: [u32; ALL_WORDS],
     pub memory: [u32; ALL_VARIABLES],
+    pub masks: [u8; ALL_BLOCKS],
     pub values: [u32; REQUESTS],
 }
 
@@ -58,6 +61,7 @@ pub(crate) fn fresh_tables() -> Tables {
         marks: [0; SLOTS],
         words: [0; ALL_WORDS],
         memory: [100, 101, 102, 103, 104, 105, 106, 107, 108, 109],
+        masks: [0; ALL_BLOCKS],
         values: [0; REQUESTS],
     }
 }

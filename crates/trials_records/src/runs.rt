@@ -3,6 +3,7 @@ use crate::board;
 use crate::board::Tables;
 use crate::lists;
 use crate::numbers;
+use crate::numbers::RequestNumbers;
 use crate::sides;
 use host_numbers::Ran;
 use protocol_types::Account;
@@ -51,6 +52,7 @@ fn by_records(at: Series, requests: [Request; REQUESTS]) -> Done {
     let mut marks = tables.marks;
     let mut words = tables.words;
     let mut memory = tables.memory;
+    let mut masks = tables.masks;
     let mut values = tables.values;
     let ran = trials_lending::run_array(
         board::setup(),
@@ -59,6 +61,7 @@ fn by_records(at: Series, requests: [Request; REQUESTS]) -> Done {
         &mut marks,
         &mut words,
         &mut memory,
+        &mut masks,
         account,
         requests,
         &mut values,
@@ -69,13 +72,13 @@ fn by_records(at: Series, requests: [Request; REQUESTS]) -> Done {
         marks: marks,
         words: words,
         memory: memory,
+        masks: masks,
         values: values,
     };
     done_of(ran, left)
 }
 
-fn by_numbers(at: Series, requests: [Request; REQUESTS]) -> Done {
-    let list = numbers::of_requests(requests);
+fn by_numbers(at: Series, list: RequestNumbers) -> Done {
     let tables = at.tables;
     let account = at.account;
     let mut blocks = tables.blocks;
@@ -83,6 +86,7 @@ fn by_numbers(at: Series, requests: [Request; REQUESTS]) -> Done {
     let mut marks = tables.marks;
     let mut words = tables.words;
     let mut memory = tables.memory;
+    let mut masks = tables.masks;
     let mut values = tables.values;
     let ran = host_numbers::run(
         board::setup(),
@@ -91,6 +95,7 @@ fn by_numbers(at: Series, requests: [Request; REQUESTS]) -> Done {
         &mut marks,
         &mut words,
         &mut memory,
+        &mut masks,
         account,
         &list,
         &mut values,
@@ -101,6 +106,7 @@ fn by_numbers(at: Series, requests: [Request; REQUESTS]) -> Done {
         marks: marks,
         words: words,
         memory: memory,
+        masks: masks,
         values: values,
     };
     done_of(ran, left)
@@ -142,7 +148,7 @@ pub(crate) fn run_case(cells: &mut Cells, k: u32, last: Series) -> Series {
     let at = before_run(cells, k, last);
     let requests = lists::run_list(cells, k);
     sides::clear(cells);
-    let other = by_numbers(at, requests);
+    let other = by_numbers(at, numbers::of_requests(requests));
     lay_done(cells, sides::NUMBERS, other);
     let done = by_records(at, requests);
     lay_done(cells, sides::RECORDS, done);

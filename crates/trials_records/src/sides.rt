@@ -39,6 +39,8 @@ const ROOM: u32 = 16;
 
 const WORDS: u32 = TABLES + 3 * ROOM;
 
+const MASKS: u32 = WORDS + 3 * ROOM;
+
 // A place in a list as a number of 32 bits: those of these trials are small.
 fn small(place: usize) -> u32 {
     if place < 65536 {
@@ -51,6 +53,18 @@ fn lay(cells: &mut Cells, first: u32, list: &[u32]) {
     let mut k = 0;
     while k < list.len() {
         put(cells, first, small(k), list[k]);
+        k += 1;
+    }
+}
+
+fn wide(byte: u8) -> u32 {
+    byte as u32
+}
+
+fn lay_bytes(cells: &mut Cells, first: u32, list: &[u8]) {
+    let mut k = 0;
+    while k < list.len() {
+        put(cells, first, small(k), wide(list[k]));
         k += 1;
     }
 }
@@ -106,8 +120,10 @@ pub(crate) fn lay_tables(cells: &mut Cells, side: u32, tables: Tables) {
     let blocks = tables.blocks;
     let counters = tables.counters;
     let marks = tables.marks;
+    let masks = tables.masks;
     lay_lines(cells, side, blocks, counters, marks);
     lay_words(cells, side, tables);
+    lay_bytes(cells, sum(side, MASKS), &masks);
 }
 
 pub(crate) fn lay_copies(cells: &mut Cells, side: u32, copies: Copies) {

@@ -19,27 +19,18 @@ Inv-loop setup block blocks counters n mask₀ i₀ mask i =
 abbrev μ-loop : tie.MeasureT-loop
 μ-loop setup block blocks counters n mask₀ i₀ mask i = setup .processors - i
 
-cast-n : tie.Need-cast-n Inv-loop μ-loop
-cast-n c = search needs
-
 loop-holds : tie.Need-loop-holds Inv-loop μ-loop
 loop-holds c = (omega arith, λ m w g. refl)
 
 add-holder-requires : tie.Need-add-holder-requires Inv-loop μ-loop
 add-holder-requires c κs =
-    let start = c .before .before .before .before .before in
-    let a = start .args in
-    let room : c .before .loop .mask + 2 ^ c .before .loop .i < 256 = rw (c .before .loop .inv .1 [] [] []) (mask-room (c .before .loop .i) _ (omega arith)) in
+    let loop′ = c .before .loop in
+    let room : loop′ .mask + 2 ^ loop′ .i < 256 = rw (loop′ .inv .1 [] [] []) (mask-room (loop′ .i) _ (omega arith)) in
     search needs
 
 loop-again : tie.Need-loop-again Inv-loop μ-loop
 loop-again c =
-    let loop′ = c .before .before in
-    let start = loop′ .before .before .before .before in
-    let a = start .args in (
-      omega arith,
-      λ m w g. c .add-holder .ensures m w g ∙ rw (add-one, mask-suc, loop′ .loop .inv .1 m w g),
-    )
+    (omega arith, λ m w g. c .add-holder .ensures m w g ∙ rw (add-one, mask-suc, c .before .before .loop .inv .1 m w g))
 
 returns : tie.Need-returns Inv-loop μ-loop
 unfolding holders
@@ -53,7 +44,7 @@ block-mask-spec =
     (tie.spec
     Inv-loop
     μ-loop
-    cast-n
+    (λ c. search needs)
     loop-holds
     add-holder-requires
     (λ c. search needs)

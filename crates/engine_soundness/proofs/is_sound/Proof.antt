@@ -1,6 +1,5 @@
 -- Both tests, as they are made.
 use borrow.Author.Needs.{needs}
-use denote.Ref.{now}
 use Rattle.protocol.specs.Masks.{soundMasked}
 use Rattle.protocol_types.proofs.Laws.{failed, passed}
 use Rattle.engine_soundness.proofs.is_sound.Statement.{statement}
@@ -12,9 +11,7 @@ returns c = rw (failed (c .before .lines-sound .ensures) (c .if1 .taken))
 
 returns-2 : tie.Need-returns-2
 unfolding soundMasked
-returns-2 c =
-    let a = c .before .before .before .before .before .before .before .before .before .args in
-    rw (passed (c .before .before .lines-sound .ensures) (c .before .if1 .left)) (c .masks-true .ensures (now (a .marks)) (now (a .words)) (now (a .memory)))
+returns-2 c = rw (passed (c .before .before .lines-sound .ensures) (c .before .if1 .left)) (c .masks-true .ensures _ _ _)
 
 pub is-sound-spec : {M : Type 1} → statement M
 is-sound-spec = tie.close (tie.spec (λ c κs. search needs) returns (λ c κs. search needs) returns-2)

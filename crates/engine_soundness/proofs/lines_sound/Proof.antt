@@ -5,13 +5,12 @@ use mathlib.Core.Path.{_≡_, refl, sym, _∙_}
 use mathlib.Core.Bool.{true}
 use Prim.Native.Nat.{_≤_, _-_}
 use native.Mathlib.Omega.{arith}
-use borrow.Author.Tests.{eq-eqb, ne-eqb}
 use denote.Ref.{now}
 use Rattle.protocol_types.specs.Lists.{all}
 use Rattle.protocol.specs.Tables.{tables}
 use Rattle.parts.proofs.Laws.{all-more, all-false}
 use Rattle.protocol_types.proofs.Laws.{failed, passed}
-use Rattle.engine_soundness.proofs.Lines.{lineTest, cacheTest, sound-is}
+use Rattle.engine_soundness.proofs.Lines.{scan-ended, scan-stopped, lineTest, cacheTest, sound-is}
 use borrow.Author.Needs.{needs}
 use Rattle.engine_soundness.proofs.lines_sound.Statement.{statement}
 use Rattle.engine_soundness.proofs.lines_sound.Tie as tie
@@ -61,13 +60,10 @@ returns c =
     let n = s .processors in
     let i = c .before .scan .i in
     ⊎-elim
-    (λ w.
-    let e : i ≡ n = omega (arith, w .left) in
-    eq-eqb i n e ∙ sym (sound-is s t ∙ rw e at (c .before .scan .inv .1)))
-    (λ w.
-    let f = all-false (lineTest s t i) (s .lines) (w .1 .l) (w .2 .taken) (failed (w .3 .ensures) (w .4 .taken)) in
-    ne-eqb i n (λ (e : i ≡ n). omega (arith, w .0 .taken)) ∙ sym (sound-is s t ∙ all-false (cacheTest s t) n i (w .0 .taken) f))
+    (λ w. scan-ended (cacheTest s t) n i (omega (arith, w .left)) (c .before .scan .inv .1))
+    (λ w. scan-stopped (cacheTest s t) n i (w .0 .taken) (all-false (lineTest s t i) (s .lines) (w .1 .l) (w .2 .taken) (failed (w .3 .ensures) (w .4 .taken))))
     (c .scan-test .came)
+    ∙ sym (sound-is s t)
 
 pub lines-sound-spec : {M : Type 1} → statement M
 lines-sound-spec =

@@ -12,8 +12,8 @@ use denote.Ref.{now}
 use Rattle.protocol_types.specs.Lists.{all}
 use Rattle.protocol.specs.Tables.{tables}
 use Rattle.protocol.specs.Masks.{masked}
-use Rattle.parts.proofs.Laws.{all-more, all-false}
-use Rattle.engine_soundness.proofs.Lines.{maskTest, true-masks-is}
+use Rattle.parts.proofs.Laws.{all-more}
+use Rattle.engine_soundness.proofs.Lines.{scan-ended, scan-stopped, maskTest, true-masks-is}
 use Rattle.engine_soundness.proofs.masks_true.Statement.{statement}
 use Rattle.engine_soundness.proofs.masks_true.Tie as tie
 
@@ -46,13 +46,10 @@ returns c m w g =
     let n = s .blocks in
     let b = c .before .loop .b in
     ⊎-elim
-    (λ e.
-    let z : b ≡ n = omega (arith, e .left) in
-    eq-eqb b n z ∙ sym (true-masks-is s x ∙ rw z at (c .before .loop .inv .1 m w g)))
-    (λ e.
-    let f = ne-eqb _ _ (λ d. e .3 .taken (d ∙ sym (e .2 .ensures m w g))) in
-    ne-eqb b n (λ (z : b ≡ n). omega (arith, e .0 .taken)) ∙ sym (true-masks-is s x ∙ all-false (maskTest s x) n b (e .0 .taken) f))
+    (λ e. scan-ended (maskTest s x) n b (omega (arith, e .left)) (c .before .loop .inv .1 m w g))
+    (λ e. scan-stopped (maskTest s x) n b (e .0 .taken) (ne-eqb _ _ (λ d. e .3 .taken (d ∙ sym (e .2 .ensures m w g)))))
     (c .loop-test .came)
+    ∙ sym (true-masks-is s x)
 
 pub masks-true-spec : {M : Type 1} → statement M
 masks-true-spec =

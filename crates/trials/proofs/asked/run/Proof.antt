@@ -26,10 +26,14 @@ slice-aggregate-run-6 c = sym (length-take-le _ _ (search needs))
 slice-aggregate-run-7 : tie.Need-slice-aggregate-run-7
 slice-aggregate-run-7 c = sym (length-take-le _ _ (search needs))
 
+slice-aggregate-run-8 : tie.Need-slice-aggregate-run-8
+slice-aggregate-run-8 c = sym (length-take-le _ _ (search needs))
+
 pub run-spec : {M : Type 1} → statement M
 run-spec =
     tie.close
     (tie.spec
+    (λ c κs. search needs)
     (λ c κs. search needs)
     (λ c κs. search needs)
     (λ c κs. search needs)
@@ -51,6 +55,9 @@ run-spec =
     slice-aggregate-run-6
     (λ c. search needs)
     slice-aggregate-run-7
+    (λ c. search needs)
+    slice-aggregate-run-8
+    (λ c κs. search needs)
     (λ c κs. search needs)
     (λ c κs. search needs)
     (λ c κs. search needs)

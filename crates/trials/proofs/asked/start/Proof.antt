@@ -20,10 +20,14 @@ slice-aggregate-start-4 c = sym (length-take-le _ _ (search needs))
 slice-aggregate-start-5 : tie.Need-slice-aggregate-start-5
 slice-aggregate-start-5 c = sym (length-take-le _ _ (search needs))
 
+slice-aggregate-start-6 : tie.Need-slice-aggregate-start-6
+slice-aggregate-start-6 c = sym (length-take-le _ _ (search needs))
+
 pub start-spec : {M : Type 1} → statement M
 start-spec =
     tie.close
     (tie.spec
+    (λ c κs. search needs)
     (λ c κs. search needs)
     (λ c κs. search needs)
     (λ c κs. search needs)
@@ -39,6 +43,9 @@ start-spec =
     slice-aggregate-start-4
     (λ c. search needs)
     slice-aggregate-start-5
+    (λ c. search needs)
+    slice-aggregate-start-6
+    (λ c κs. search needs)
     (λ c κs. search needs)
     (λ c κs. search needs)
     (λ c κs. search needs)

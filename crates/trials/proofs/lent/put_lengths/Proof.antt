@@ -8,7 +8,7 @@ abbrev Inv-loop : tie.InvT-loop
 Inv-loop cells₀ setup values table₀ cells table = 0 ≤ table
 
 abbrev μ-loop : tie.MeasureT-loop
-μ-loop cells₀ setup values table₀ cells table = 6 - table
+μ-loop cells₀ setup values table₀ cells table = 7 - table
 
 pub put-lengths-spec : {M : Type 1} → statement M
 put-lengths-spec =

@@ -5,10 +5,10 @@ use Rattle.trials.proofs.run_trials.scatter.Statement.{statement}
 use Rattle.trials.proofs.run_trials.scatter.Tie as tie
 
 abbrev Inv-loop : tie.InvT-loop
-Inv-loop cells₀ first n from k₀ cells k = 0 ≤ k
+Inv-loop cells₀ first n from below k₀ cells k = 0 ≤ k
 
 abbrev μ-loop : tie.MeasureT-loop
-μ-loop cells₀ first n from k₀ cells k = n - k
+μ-loop cells₀ first n from below k₀ cells k = n - k
 
 pub scatter-spec : {M : Type 1} → statement M
 scatter-spec =
@@ -17,6 +17,7 @@ scatter-spec =
     Inv-loop
     μ-loop
     (λ c. search needs)
+    (λ c κs. search needs)
     (λ c κs. search needs)
     (λ c κs. search needs)
     (λ c. search needs)
