@@ -10,7 +10,7 @@ use best_own_parts::{Playing, clear, obtain, play_completion, play_drop};
 use protocol_types::Setup;
 
 // The engine's own actions: how many, and what they cost.
-#[derive(Drop)]
+#[derive(Clone, Copy)]
 pub struct Own {
     pub length: usize,
     pub cost: u32,

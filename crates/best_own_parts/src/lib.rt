@@ -7,7 +7,7 @@ use best_moves::{block_in_line, digit_at, entry_number, holds_block, line_of, ne
 use protocol_types::Setup;
 
 // Where the engine stands: the position of its copies, and how many entries were written at which cost.
-#[derive(Drop)]
+#[derive(Clone, Copy)]
 pub struct Playing {
     pub position: usize,
     pub length: usize,

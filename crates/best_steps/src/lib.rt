@@ -22,7 +22,7 @@ const REQUEST_COUNT: usize = 24;
 
 // A search between two requests, or between two entries of its schedule: whether it goes on; whether the request at `at` is to be taken, or else `entry` is to be
 // stored there; how many requests or entries there are; the requests taken, as numbers; the steps; and the answer if it stops.
-#[derive(Drop)]
+#[derive(Clone, Copy)]
 pub struct BestProgress {
     pub going: bool,
     pub asking: bool,

@@ -9,7 +9,7 @@ ghost use Rattle.best_tries.specs.Progress.{state_at, Falls};
 use protocol_types::Setup;
 
 // How far the search has come.
-#[derive(Drop)]
+#[derive(Clone, Copy)]
 pub struct Progress {
     // the position whose entries are tried, 32,400 once the search is over, and the next of its entries
     pub current: usize,

@@ -17,7 +17,7 @@ use parts::word_of;
 use protocol_types::{Bill, Block, Operation, Request, Setup, Variable};
 
 // The value that a request supplies or writes, and its cycles.
-#[derive(Drop)]
+#[derive(Clone, Copy)]
 pub struct Served {
     pub value: u32,
     pub bill: Bill,
@@ -69,14 +69,14 @@ fn obtain(
 }
 
 // What an access does with the variable's word, once the processor holds its block.
-#[derive(Drop)]
+#[derive(Clone, Copy)]
 enum Effect {
     Supply,
     Store(u32),
 }
 
 // An operation on one variable: a read or a write.
-#[derive(Drop)]
+#[derive(Clone, Copy)]
 struct Access {
     variable: Variable,
     effect: Effect,

@@ -10,7 +10,7 @@ use protocol_types::{Operation, Request, Setup, Variable};
 const LIST_LIMIT: usize = protocol_types::REQUEST_LIMIT as usize;
 
 // A list being generated: whether it goes on, the place of the next request, the last draw that this request used, the request, and the refusal number or 0.
-#[derive(Drop)]
+#[derive(Clone, Copy)]
 pub struct Generation {
     pub going: bool,
     pub at: usize,

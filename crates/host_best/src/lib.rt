@@ -11,7 +11,7 @@ use best_steps::BestProgress;
 use protocol_types::{BestAnswer, Setup};
 
 // An answer in numbers: the refusal number and its place, or 0 and 0; the schedule's length, its cost, the steps used, 1 where it is called least, and its excess, each 0 with a refusal.
-#[derive(Drop)]
+#[derive(Clone, Copy)]
 pub struct BestNumbers {
     pub refusal: u32,
     pub place: usize,

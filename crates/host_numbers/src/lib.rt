@@ -13,7 +13,7 @@ ghost use Rattle.host_numbers.specs.Numbers.{account_of, run_numbers, price_of_n
 use protocol_types::{Account, PriceAnswer, RunAnswer, Setup};
 
 // What a run answers, and the account after it.
-#[derive(Drop)]
+#[derive(Clone, Copy)]
 pub struct Ran {
     pub answer: RunAnswer,
     pub account: Account,

@@ -57,7 +57,7 @@ pub const REQUEST_LIMIT: u32 = 1000000;
 const PRICE_LIMIT: u32 = 32;
 
 // The board: N processors, L lines in each cache, p words in a block, M blocks, and the cycles of a fetch (f) and of a write-back (g).
-#[derive(Drop)]
+#[derive(Clone, Copy)]
 pub struct Setup {
     pub processors: u32,
     pub lines: u32,
@@ -68,11 +68,11 @@ pub struct Setup {
 }
 
 // A variable's number. No block number can stand for it.
-#[derive(Drop)]
+#[derive(Clone, Copy)]
 pub struct Variable(pub u32);
 
 // A block's number.
-#[derive(Drop)]
+#[derive(Clone, Copy)]
 pub struct Block(pub u32);
 
 // Whether x is a number from 1 to most.
@@ -256,7 +256,7 @@ impl Setup {
 }
 
 // A clear empties the processor's cache; it names no variable.
-#[derive(Drop)]
+#[derive(Clone, Copy)]
 pub enum Operation {
     Read(Variable),
     Write(Variable, u32),
@@ -264,14 +264,14 @@ pub enum Operation {
 }
 
 // What one processor asks for.
-#[derive(Drop)]
+#[derive(Clone, Copy)]
 pub struct Request {
     pub processor: u32,
     pub operation: Operation,
 }
 
 // The cycles that an action is charged, by kind.
-#[derive(Drop)]
+#[derive(Clone, Copy)]
 pub struct Bill {
     pub fetch: u32,
     pub write_back: u32,
@@ -279,7 +279,7 @@ pub struct Bill {
 }
 
 // The host's account: requests taken, and the cycles of each kind.
-#[derive(Drop)]
+#[derive(Clone, Copy)]
 pub struct Account {
     pub requests: u32,
     pub fetch: u32,
@@ -288,7 +288,7 @@ pub struct Account {
 }
 
 // What a run answers: the requests taken, the refusal number or 0, and the refused place.
-#[derive(Drop)]
+#[derive(Clone, Copy)]
 pub struct RunAnswer {
     pub taken: usize,
     pub refusal: u32,
@@ -296,7 +296,7 @@ pub struct RunAnswer {
 }
 
 // One entry of a rival's schedule: a processor and a block, or the completion of the next request.
-#[derive(Drop)]
+#[derive(Clone, Copy)]
 pub enum Entry {
     Fetch(u32, Block),
     WriteBack(u32, Block),
@@ -306,14 +306,14 @@ pub enum Entry {
 }
 
 // What the pricer answers: the schedule's cost, or a refusal number and its place.
-#[derive(Drop)]
+#[derive(Clone, Copy)]
 pub enum PriceAnswer {
     Accepted(u32),
     Refused(u32, usize),
 }
 
 // The best schedule found so far: how many entries it has, its cost, the steps used, whether it is called least, and its cost less half the engine's cycles, that half rounded up.
-#[derive(Drop)]
+#[derive(Clone, Copy)]
 pub struct BestSchedule {
     pub length: usize,
     pub cost: u32,
@@ -323,7 +323,7 @@ pub struct BestSchedule {
 }
 
 // What the search for the best schedule answers: the schedule, or a refusal number and its place.
-#[derive(Drop)]
+#[derive(Clone, Copy)]
 pub enum BestAnswer {
     Found(BestSchedule),
     Refused(u32, usize),

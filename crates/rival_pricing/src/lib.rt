@@ -14,7 +14,7 @@ const PRICE_ENTRY_LIMIT: usize = 4000000;
 
 // Pricing between two entries: whether it goes on; whether the entry at `at` is a completion that waits for its request, and of which kind;
 // the places in the two lists, their lengths, the cost so far, and the answer if it stops.
-#[derive(Drop)]
+#[derive(Clone, Copy)]
 pub struct Pricing {
     pub going: bool,
     pub completing: bool,

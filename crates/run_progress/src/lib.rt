@@ -8,7 +8,7 @@ ghost use Rattle.run_progress.specs.Progress.{Sums, begun, stopped, advanced, gr
 use protocol_types::{Account, Bill, RunAnswer, Setup};
 
 // Whether the run goes on, the account as it was at the start, the bill so far, and the answer if it stops here.
-#[derive(Drop)]
+#[derive(Clone, Copy)]
 pub struct Progress {
     pub going: bool,
     pub account: Account,

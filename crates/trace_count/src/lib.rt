@@ -13,7 +13,7 @@ use trace_lines::{Meaning, Report, interpret, trace_setup};
 use trace_scan::Line;
 
 // A trace so far: its current line and that line's number, what the lines before came to, and the refusal that stopped it, or 0.
-#[derive(Drop)]
+#[derive(Clone, Copy)]
 pub struct Count {
     pub line: Line,
     pub line_number: u32,

@@ -11,7 +11,7 @@ pub const LINE_LIMIT: u32 = 80;
 pub const ADDRESS_DIGITS: u32 = 8;
 
 // What a line is: malformed, or a label and an address.
-#[derive(Drop)]
+#[derive(Clone, Copy)]
 pub enum Parsed {
     Malformed,
     Labelled(u32, u32),
@@ -96,7 +96,7 @@ fn blanks_end(bytes: &[u8], from: usize) -> usize
 }
 
 // The hexadecimal digits from a place on: the place after them, and their number's low 32 bits.
-#[derive(Drop)]
+#[derive(Clone, Copy)]
 struct Address {
     end: usize,
     number: u32,
@@ -138,7 +138,7 @@ pub fn line_end(bytes: &[u8], from: usize) -> usize
 }
 
 // The first line of some bytes: what it is, and the place of its newline, or the bytes' end.
-#[derive(Drop)]
+#[derive(Clone, Copy)]
 pub struct FirstLine {
     pub parsed: Parsed,
     pub end: usize,

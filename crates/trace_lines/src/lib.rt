@@ -9,7 +9,7 @@ use trace_din::Parsed;
 const PROCESSOR_STRIDE: u32 = 16777216;
 
 // What is reported: the account, and the refusal and its line, 0 and 0 if none.
-#[derive(Drop)]
+#[derive(Clone, Copy)]
 pub struct Report {
     pub account: Account,
     pub refusal: u32,
@@ -17,7 +17,7 @@ pub struct Report {
 }
 
 // What a line is to the program: refused for its form or its label, or a request.
-#[derive(Drop)]
+#[derive(Clone, Copy)]
 pub enum Meaning {
     Malformed,
     Unknown,

@@ -21,7 +21,7 @@ const WORDS: usize = 128;
 const VARIABLES: usize = 256;
 
 // A trace after a read: whether to read on, whether a read failed, and what was counted.
-#[derive(Drop)]
+#[derive(Clone, Copy)]
 struct Progress {
     going: bool,
     failed: bool,
@@ -129,7 +129,7 @@ fn read_all(
 }
 
 // Whether a read failed, and the report of what was read.
-#[derive(Drop)]
+#[derive(Clone, Copy)]
 pub struct Answer {
     pub failed: bool,
     pub report: Report,
@@ -159,7 +159,7 @@ fn read_report(
 }
 
 // An answer, and whether its report was written.
-#[derive(Drop)]
+#[derive(Clone, Copy)]
 pub struct Delivery {
     pub answer: Answer,
     pub written: bool,

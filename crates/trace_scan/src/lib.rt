@@ -5,7 +5,7 @@ ghost use Rattle.trace_scan.specs.Automaton.{after_blanks, after_digits, scanned
 use trace_din::{ADDRESS_DIGITS, LINE_LIMIT, Parsed, hex_value, is_blank, is_gap, shift};
 
 // How far a line has come: its label, then blanks, then the count of digits and the address so far, then ignored text.
-#[derive(Drop)]
+#[derive(Clone, Copy)]
 pub enum Scan {
     Start,
     Label(u32),
@@ -16,7 +16,7 @@ pub enum Scan {
 }
 
 // A line's bytes so far, up to the limit, and what they are.
-#[derive(Drop)]
+#[derive(Clone, Copy)]
 pub struct Line {
     pub width: u32,
     pub scan: Scan,

@@ -22,7 +22,7 @@ pub type Masks = [u8; MASK_ROOM];
 const REAL_MASKS: u32 = REAL + lent::MASKS;
 
 // What an entry answered, or the model; 0 and a fresh account stand where a kind has no such part.
-#[derive(Drop)]
+#[derive(Clone, Copy)]
 pub struct Answer {
     pub refusal: u32,
     pub place: usize,
@@ -314,7 +314,7 @@ fn cell_after(cells: &Cells, first: u32, k: usize) -> u32 {
 }
 
 // What a look showed: how many words, and how many of them are not those of the block.
-#[derive(Drop)]
+#[derive(Clone, Copy)]
 pub struct Shown {
     pub count: usize,
     pub unlike: u32,

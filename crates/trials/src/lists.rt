@@ -39,7 +39,7 @@ pub const WRITE: u32 = 1;
 pub const CLEAR: u32 = 2;
 
 // A request. A read has no use for the value, and a clear none for the variable either.
-#[derive(Drop)]
+#[derive(Clone, Copy)]
 pub struct Request {
     pub processor: u32,
     pub operation: u32,

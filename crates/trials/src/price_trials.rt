@@ -11,7 +11,7 @@ use trials_cells::state;
 use trials_cells::state::{draw, word};
 
 // A schedule being built: what the model makes of it, and its entries.
-#[derive(Drop)]
+#[derive(Clone, Copy)]
 struct Draft {
     play: Play,
     count: u32,
@@ -44,7 +44,7 @@ fn step_toward(cells: &Cells, setup: Setup, i: u32, b: u32) -> Move {
 
 // How a schedule is built: once in `wild` times an entry may be anything, once in `idle` times it is one that no request
 // asks for; never where the number is 0.
-#[derive(Drop)]
+#[derive(Clone, Copy)]
 struct Style {
     wild: u32,
     idle: u32,
@@ -217,7 +217,7 @@ fn build(cells: &mut Cells, setup: Setup, n: u32, style: Style, turns: u32) -> u
     at.count
 }
 
-#[derive(Drop)]
+#[derive(Clone, Copy)]
 struct Priced {
     play: Play,
     what: u32,
@@ -369,7 +369,7 @@ fn pick_schedule(cells: &mut Cells, setup: Setup, n: u32) -> u32 {
 
 // What a schedule is drawn and priced for: n requests, and how many numbers of them are lent. `right` may be another setup than the one that
 // the pricer is given.
-#[derive(Drop)]
+#[derive(Clone, Copy)]
 struct Question {
     right: Setup,
     setup: Setup,

@@ -29,7 +29,7 @@ pub const COMPLETE: u32 = 3;
 pub const BROADCAST: u32 = 4;
 
 // An entry of a schedule. A completion has no use for the processor and the block.
-#[derive(Drop)]
+#[derive(Clone, Copy)]
 pub struct Move {
     pub kind: u32,
     pub processor: u32,
@@ -37,7 +37,7 @@ pub struct Move {
 }
 
 // A schedule so far: its cost, how much of that is for write-backs, the requests completed, the refusal number or 0, and its place.
-#[derive(Drop)]
+#[derive(Clone, Copy)]
 pub struct Play {
     pub cost: u32,
     pub write_back: u32,

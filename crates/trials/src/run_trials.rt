@@ -155,7 +155,7 @@ pub(crate) fn start_case(cells: &mut Cells, case: u32) {
 }
 
 // A list of runs over the same tables and account, and how many are left of it.
-#[derive(Drop)]
+#[derive(Clone, Copy)]
 pub struct Series {
     pub setup: Setup,
     pub account: Account,
@@ -163,7 +163,7 @@ pub struct Series {
 }
 
 // A run: its setup and account, and how many numbers of the requests are lent.
-#[derive(Drop)]
+#[derive(Clone, Copy)]
 pub struct Plan {
     pub setup: Setup,
     pub account: Account,
@@ -171,7 +171,7 @@ pub struct Plan {
 }
 
 // What a run came to in the model: the account and the refusal; and what differed from it.
-#[derive(Drop)]
+#[derive(Clone, Copy)]
 pub struct Judged {
     pub account: Account,
     pub refusal: u32,
@@ -214,7 +214,7 @@ pub(crate) fn cycles(account: Account) -> u32 {
 }
 
 // A setup at which tables are lent, and what of them is looked at.
-#[derive(Drop)]
+#[derive(Clone, Copy)]
 struct Sight {
     setup: Setup,
     processor: u32,

@@ -17,14 +17,14 @@ use trials_cells::state;
 const VALUES: u32 = WANTED + lent::VALUES;
 
 // The cycles of blocks that come and go.
-#[derive(Drop)]
+#[derive(Clone, Copy)]
 struct Moved {
     fetch: u32,
     write_back: u32,
 }
 
 // The value that a request supplied or wrote, and its cycles.
-#[derive(Drop)]
+#[derive(Clone, Copy)]
 pub struct Served {
     pub value: u32,
     pub fetch: u32,
@@ -33,7 +33,7 @@ pub struct Served {
 }
 
 // What a run came to.
-#[derive(Drop)]
+#[derive(Clone, Copy)]
 pub struct Outcome {
     pub taken: u32,
     pub refusal: u32,

@@ -6,7 +6,7 @@ use crate::{requests, rules};
 use trials_cells::cells::{Cells, product, sum};
 
 // A schedule so far: whether each entry was legal, where it leads, the requests completed, and its cost.
-#[derive(Drop)]
+#[derive(Clone, Copy)]
 pub struct Play {
     pub legal: bool,
     pub position: u32,

@@ -21,7 +21,7 @@ const MOST_REQUESTS: u32 = 24;
 const MOST_BLOCKS: u32 = 4;
 
 // A refusal number and its place.
-#[derive(Drop)]
+#[derive(Clone, Copy)]
 pub struct Refusal {
     pub number: u32,
     pub place: u32,

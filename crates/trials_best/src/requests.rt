@@ -24,7 +24,7 @@ const HOT: u32 = 3;
 const OF: u32 = 16;
 
 // A request by what matters to a schedule.
-#[derive(Drop)]
+#[derive(Clone, Copy)]
 pub struct Asked {
     pub processor: u32,
     pub operation: u32,

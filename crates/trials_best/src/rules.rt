@@ -22,7 +22,7 @@ pub const PAIRS: u32 = 8;
 const BLOCK_PAIRS: u32 = 16;
 
 // What an entry leads to, if it is legal.
-#[derive(Drop)]
+#[derive(Clone, Copy)]
 pub struct Step {
     pub legal: bool,
     pub cost: u32,

@@ -68,7 +68,7 @@ pub fn price_arrays(
 }
 
 // What the generator left: the refusal number or 0, and the requests.
-#[derive(Drop)]
+#[derive(Clone, Copy)]
 pub struct Generated {
     pub refusal: u32,
     pub requests: [Request; REQUESTS],

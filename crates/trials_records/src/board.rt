@@ -25,7 +25,7 @@ const ALL_VARIABLES: usize = VARIABLES as usize;
 
 const ALL_BLOCKS: usize = BLOCKS as usize;
 
-#[derive(Drop)]
+#[derive(Clone, Copy)]
 pub struct Tables {
     pub blocks: [u32; SLOTS],
     pub counters: [u32; SLOTS],
@@ -36,7 +36,7 @@ pub struct Tables {
     pub values: [u32; REQUESTS],
 }
 
-#[derive(Drop)]
+#[derive(Clone, Copy)]
 pub struct Copies {
     pub blocks: [u32; SLOTS],
     pub held: [u32; SLOTS],

@@ -7,7 +7,7 @@ use trials_cells::state;
 use trials_lending::{ENTRIES, REQUESTS};
 
 // What a price answered, and the copies that it left.
-#[derive(Drop)]
+#[derive(Clone, Copy)]
 pub struct Priced {
     pub answer: PriceAnswer,
     pub copies: Copies,

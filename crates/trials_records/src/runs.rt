@@ -13,14 +13,14 @@ use trials_lending::REQUESTS;
 const SERIES: u32 = 16;
 
 // The tables that runs go on over, and the account.
-#[derive(Drop)]
+#[derive(Clone, Copy)]
 pub struct Series {
     pub tables: Tables,
     pub account: Account,
 }
 
 // What a run answered, and what it left.
-#[derive(Drop)]
+#[derive(Clone, Copy)]
 pub struct Done {
     pub answer: RunAnswer,
     pub at: Series,

@@ -12,7 +12,7 @@ const LONGEST: usize = 8200;
 pub type Table = [u32; ROOM];
 
 // What the entry answered, and how many cells of its tables are not the model's.
-#[derive(Drop)]
+#[derive(Clone, Copy)]
 pub struct Counted {
     pub report: Report,
     pub unlike: u32,

@@ -49,7 +49,7 @@ pub const ALL_WORDS: u32 = 128;
 pub const VARIABLES: u32 = 256;
 
 // The table whose length is wrong, and that length; no table if it is not below TABLES.
-#[derive(Drop)]
+#[derive(Clone, Copy)]
 pub struct Lending {
     pub table: u32,
     pub length: u32,

@@ -29,7 +29,7 @@ const NO_DIGIT: u32 = 16;
 const MOST_REQUESTS: u32 = 1000000;
 
 // What a trace came to. `at` is where its next line starts.
-#[derive(Drop)]
+#[derive(Clone, Copy)]
 pub struct Reading {
     pub at: u32,
     pub account: Account,
@@ -38,7 +38,7 @@ pub struct Reading {
 }
 
 // A line's label and address, and whether it is malformed, as a refusal.
-#[derive(Drop)]
+#[derive(Clone, Copy)]
 struct Parts {
     label: u32,
     address: u32,

@@ -6,7 +6,7 @@ use crate::layout::{
 use trials_cells::cells::{Cells, copy, get, less, product, put, quotient, remainder, sum, wipe};
 
 // The cycles of a request.
-#[derive(Drop)]
+#[derive(Clone, Copy)]
 pub struct Cycles {
     pub fetch: u32,
     pub write_back: u32,
