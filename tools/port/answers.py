@@ -102,6 +102,13 @@ class Function:
                             rest = [b] + rest[1:]
                             break
                     labels = self.callee(place)
+                    params = self.names["params"].get(place[3]) if place[3] else None
+                    if rest[0] == "new" and params and len(rest) > 1 and rest[1] in ("0", "1"):
+                        k = 1
+                        while k < len(rest) and rest[k] == "1":
+                            k += 1
+                        if k < len(rest) and rest[k] == "0" and k - 1 < len(params):
+                            rest = ["new", params[k - 1]] + rest[k + 1:]
                     if rest[0] in ("ensures", "requires") and labels:
                         more = flat(rest[1:], labels[1 if rest[0] == "ensures" else 0])
                         if more is not None:
@@ -133,8 +140,9 @@ class Function:
                 out.append(token.sub(lambda t: self.turned(t, alias, chain), m.group(0)))
             pos = m.end()
         done = "".join(out)
-        done = re.sub(r"=\s*\n\s*\n", "=\n", done)
-        return done
+        done = re.sub(r"\bnot-true _ ([\w.+-]+\.)true-raw", r"\1true", done)
+        done = re.sub(r"\bnot-false _ ([\w.+-]+\.)false-raw", r"\1false", done)
+        return "\n".join(l for i, l in enumerate(done.split("\n")) if l.strip() or i == 0)
 
     def turned(self, t, alias, chain):
         if t.group(1) not in alias:
@@ -346,6 +354,21 @@ def convert(crate, folder, path, names, labels, root):
             continue
         answers.append("\n".join(notes + [f"pub {new} : goal.{new}"] + unfolding + [f"{new} {' '.join(['c'] + more)} ={value}"]))
     where = f"Rattle.{crate}.proofs.{path}"
+    cited, kept = [], []
+    for h in helpers:
+        name = next(DECL.match(l).group(1) for l in h.split("\n") if DECL.match(l))
+        if re.search(r"(?<![\w'-])" + re.escape(name) + r"(?![\w'-])", "\n".join(invariants)):
+            line = next(l for l in h.split("\n") if DECL.match(l))
+            opened = line if "pub " in line else (line.replace("abbrev ", "abbrev pub ", 1) if line.startswith("abbrev ") else "pub " + line)
+            cited.append((name, h.replace(line, opened)))
+        else:
+            kept.append(h)
+    if cited:
+        invariants = [h for _, h in cited] + invariants
+        uses_of = [f"use {where}.Invariants.{{{', '.join(n for n, _ in cited)}}}"]
+    else:
+        uses_of = []
+    helpers = kept
     comment = "\n".join(comments)
     if invariants:
         with open(os.path.join(folder, "Invariants.antt"), "w", encoding="utf-8") as f:
@@ -353,7 +376,7 @@ def convert(crate, folder, path, names, labels, root):
     if answers or helpers:
         rules = ["use Rattle.std.proofs.Common.{rules}"] if re.search(r"\brules\b", "\n".join(answers + helpers)) else []
         with open(os.path.join(folder, "Answers.antt"), "w", encoding="utf-8") as f:
-            f.write("\n".join([comment] + uses + rules + [f"use {where}.Goals as goal", ""]) + "\n" + "\n\n".join(helpers + answers) + "\n")
+            f.write("\n".join([comment] + uses + uses_of + rules + [f"use {where}.Goals as goal", ""]) + "\n" + "\n\n".join(helpers + answers) + "\n")
     os.remove(file)
     return fn.left
 

@@ -1,4 +1,6 @@
 // The best schedule found so far, for a lent list of requests, at the front of a lent list of entries.
+#![tactic(auto)]
+
 ghost use Rattle.std.specs.Prelude.{◌≡◌, ◌≢◌, length};
 ghost use Rattle.protocol_types.specs.Refusals.{no_refusal};
 ghost use Rattle.best_positions.specs.Best.{search_sized, best_refusal, best_answer, best_list};

@@ -1,4 +1,6 @@
 // The search for the best schedule, over lent tables: distances, the order of settling, predecessors, and the smallest distance of each group.
+#![tactic(auto)]
+
 ghost use Rattle.std.specs.Prelude.{◌≡◌, List, ℕ, ◌≤◌, ◌<◌, length, set};
 ghost use Rattle.protocol_types.specs.Lists.{at, zeros};
 ghost use Rattle.protocol_types.specs.Board.{Fits};

@@ -1,4 +1,6 @@
 // The next position of the search, found by the table of the smallest distance of each group of 36 positions.
+#![tactic(auto)]
+
 ghost use Rattle.std.specs.Prelude.{◌≡◌, ℕ, ◌+◌, ◌-◌, ◌*◌, ◌/◌, ◌<◌, ◌≤◌, length, set, ltb, eqb};
 ghost use Rattle.protocol_types.specs.Lists.{at, first, smaller};
 ghost use Rattle.best_search.specs.Search.{cheapest, upcoming};

@@ -1,4 +1,6 @@
 // What an entry does at a position of the search (document 02, P8), by the digits of the position's number. The search's inner loop: no division by a variable.
+#![tactic(auto)]
+
 ghost use Rattle.std.specs.Prelude.{◌≡◌, Bool, true, ℕ, ◌%◌, ◌<◌, ◌≤◌, length};
 ghost use Rattle.protocol_types.specs.Lists.{at};
 ghost use Rattle.protocol_types.specs.Board.{Fits};

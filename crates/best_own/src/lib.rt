@@ -1,4 +1,6 @@
 // The engine's own actions for a list of requests as numbers that tell a schedule's entries, and their cost: the schedule that the search starts from (document 02, P8).
+#![tactic(auto)]
+
 ghost use Rattle.std.specs.Prelude.{◌≡◌, ◌-◌, ◌<◌, ◌≤◌, length};
 ghost use Rattle.protocol_types.specs.Board.{Fits};
 ghost use Rattle.best_own_parts.specs.Playing.{Ready, Moved};

@@ -1,4 +1,6 @@
 // The parts of what the engine does for a request, played one entry after another into a lent list of numbers (document 02, P8).
+#![tactic(auto)]
+
 ghost use Rattle.std.specs.Prelude.{[], ◌∷◌, ◌<◌};
 ghost use Rattle.best_own_parts.specs.Codes.{move_code, drop_code, complete_code, leaving_codes, evicting_codes, obtaining_codes, clearing_codes};
 ghost use Rattle.best_own_parts.specs.Playing.{Ready, Played, Moved};

@@ -1,4 +1,6 @@
 // The best schedule found in so many steps, as numbers at the front of a lent table: the engine's own actions, or the way to the goal of the search.
+#![tactic(auto)]
+
 ghost use Rattle.std.specs.Prelude.{◌≡◌, ◌≢◌, ◌++◌, ℕ, ◌-◌, ◌+◌, ◌/◌, ◌≤◌, ◌<◌, length, drop};
 ghost use Rattle.protocol_types.specs.Board.{Fits};
 ghost use Rattle.protocol_types.specs.Lists.{at};

@@ -1,4 +1,6 @@
 // The covered steps of the search for the best schedule: what is checked before the first request, one request taken, and one entry of the schedule read back.
+#![tactic(auto)]
+
 ghost use Rattle.std.specs.Prelude.{◌≡◌, ◌*◌, ◌<◌, ◌≤◌, length, take};
 ghost use Rattle.protocol_types.specs.Lists.{at};
 ghost use Rattle.protocol_types.specs.Board.{Fits, variables, block_of};

@@ -1,4 +1,6 @@
 // One step of the search for the best schedule, over lent tables: an entry tried, or the current position settled.
+#![tactic(auto)]
+
 ghost use Rattle.std.specs.Prelude.{◌≡◌, Bool, ◌||◌, List, ℕ, ◌+◌, ◌*◌, ◌/◌, ◌≤◌, ◌<◌, length, set, eqb, ltb};
 ghost use Rattle.protocol_types.specs.Lists.{at};
 ghost use Rattle.best_search.specs.Search.{Graph, Tried, past, lowered, relaxed, closed, onward};

@@ -1,4 +1,6 @@
 // The way back from the goal of a search, as the numbers of its entries. A predecessor is 18 times a position, plus the entry there.
+#![tactic(auto)]
+
 ghost use Rattle.std.specs.Prelude.{◌≡◌, List, ◌++◌, ℕ, ◌/◌, ◌≤◌, ◌<◌, length, drop};
 ghost use Rattle.protocol_types.specs.Lists.{at};
 ghost use Rattle.best_positions.specs.Best.{way_back};

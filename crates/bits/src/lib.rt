@@ -1,4 +1,6 @@
 // The bits of a byte: one set or cleared, and the lowest found and taken away.
+#![tactic(auto)]
+
 ghost use Rattle.std.specs.Prelude.{◌≡◌, ◌^◌, ◌<◌};
 ghost use Rattle.protocol_types.specs.Lists.{first};
 ghost use Rattle.protocol_types.specs.Bits.{bit_at};

@@ -1,4 +1,6 @@
 // Processor 4 is refused, before its variable.
+#![tactic(auto)]
+
 fn main() {
     trace_report::run();
 }

@@ -1,4 +1,6 @@
 // One request, served on the lent tables.
+#![tactic(auto)]
+
 ghost use Rattle.std.specs.Prelude.{◌≡◌, ◌<◌};
 ghost use Rattle.protocol_types.specs.Board.{Fits, variables};
 ghost use Rattle.protocol.specs.Lent.{lent, before, after, TrueMasks};

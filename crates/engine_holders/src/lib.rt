@@ -1,4 +1,6 @@
 // Who holds a block: the searches over processors, those over the set bits of a block's mask (document 02, P7), and the update of its copies.
+#![tactic(auto)]
+
 ghost use Rattle.std.specs.Prelude.{◌≡◌, List, ℕ, ◌^◌, ◌≤◌, ◌<◌, length};
 ghost use Rattle.protocol_types.specs.Board.{Fits};
 ghost use Rattle.protocol.specs.Tables.{holds_at, holds, sharing};

@@ -1,4 +1,6 @@
 // The masks of holders (document 02, P7) where one processor gains or loses its copy of a block.
+#![tactic(auto)]
+
 ghost use Rattle.std.specs.Prelude.{◌≡◌, ◌<◌, length};
 ghost use Rattle.protocol_types.specs.Lists.{at};
 ghost use Rattle.protocol.specs.Tables.{directory};

@@ -1,4 +1,6 @@
 // The soundness scan.
+#![tactic(auto)]
+
 ghost use Rattle.std.specs.Prelude.{◌≡◌, cond, List, ℕ, ◌+◌, ◌^◌, ◌<◌, length};
 ghost use Rattle.protocol_types.specs.Lists.{at};
 ghost use Rattle.protocol_types.specs.Board.{Fits, slots, line_slot};

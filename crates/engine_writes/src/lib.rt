@@ -1,4 +1,6 @@
 // A processor that holds a block writes a word of it.
+#![tactic(auto)]
+
 ghost use Rattle.std.specs.Prelude.{◌≡◌, true, List, ℕ, ◌^◌, ◌≤◌, ◌<◌, eqb};
 ghost use Rattle.protocol_types.specs.Lists.{at};
 ghost use Rattle.protocol_types.specs.Board.{Fits, slots};

@@ -1,4 +1,6 @@
 // The generator: a lent list is filled with requests that two labs can repeat, by the same seed.
+#![tactic(auto)]
+
 ghost use Rattle.std.specs.Prelude.{◌≡◌, length};
 ghost use Rattle.protocol.specs.Generator.{generate_refusal, generated};
 

@@ -1,4 +1,6 @@
 // The covered half of the generator: what is checked before the first request, and one request drawn from a seed by Marsaglia's xorshift.
+#![tactic(auto)]
+
 ghost use Rattle.std.specs.Prelude.{◌≡◌, ◌<◌};
 ghost use Rattle.protocol_types.specs.Board.{Fits};
 ghost use Rattle.protocol.specs.Generator.{xorshift, request_drawn, generate_refusal};

@@ -1,4 +1,6 @@
 // The product for hosts in C and Rust: functions of numbers and slices of numbers alone. Every out-parameter is always written.
+#![tactic(auto)]
+
 ghost use Rattle.std.specs.Prelude.{◌≡◌, ◌≢◌};
 ghost use Rattle.protocol_types.specs.Refusals.{no_refusal};
 ghost use Rattle.protocol.specs.Lent.{before, after, masked_before, masked_after};

@@ -1,4 +1,6 @@
 // The best schedule found so far over plain numbers: a list that is not whole is refused, requests are decoded and entries written as they are reached.
+#![tactic(auto)]
+
 ghost use Rattle.std.specs.Prelude.{◌≡◌, ◌≢◌, cond};
 ghost use Rattle.protocol_types.specs.Refusals.{no_refusal};
 ghost use Rattle.best_positions.specs.Best.{search_tables};

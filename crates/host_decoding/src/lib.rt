@@ -1,4 +1,6 @@
 // Requests and a schedule's entries, read from lists of numbers, and what refuses a list that is not whole.
+#![tactic(auto)]
+
 ghost use Rattle.std.specs.Prelude.{◌≡◌, ◌/◌, ◌<◌, length};
 ghost use Rattle.host_decoding.specs.Records.{request_width, entry_width, whole, both_whole, partial_refusal, operation_of, request_of, request_at, requests_of, entry_of, entry_at, entries_of};
 

@@ -1,4 +1,6 @@
 // Requests and a schedule's entries written to lists of numbers, as host_decoding reads them.
+#![tactic(auto)]
+
 ghost use Rattle.std.specs.Prelude.{◌≡◌, ◌*◌, ◌/◌, ◌<◌, length};
 ghost use Rattle.std.proofs.lemmas.List.Edits.{sets};
 ghost use Rattle.host_decoding.specs.Records.{request_width, entry_width};

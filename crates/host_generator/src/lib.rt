@@ -1,4 +1,6 @@
 // The generator over plain numbers: a list that is not whole is refused, and each request is written as it is drawn.
+#![tactic(auto)]
+
 ghost use Rattle.std.specs.Prelude.{◌≡◌};
 ghost use Rattle.host_generator.specs.Numbers.{generate_numbers_refusal, generated_numbers};
 

@@ -1,4 +1,6 @@
 // A look as an offset and a length, for hosts to which no slice can be given back.
+#![tactic(auto)]
+
 ghost use Rattle.std.specs.Prelude.{◌≡◌};
 ghost use Rattle.host_looks.specs.Looks.{look_length, look_offset};
 

@@ -1,4 +1,6 @@
 // A run and a schedule's price over plain numbers: lists that are not whole are refused, requests and entries are decoded as they are reached.
+#![tactic(auto)]
+
 ghost use Rattle.std.specs.Prelude.{◌≡◌};
 ghost use Rattle.protocol.specs.Lent.{masked_before, masked_after};
 ghost use Rattle.protocol.specs.Engines.{run as ran};

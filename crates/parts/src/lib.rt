@@ -1,4 +1,6 @@
 // Parts of lent words: cleared, copied and compared; and rows of words, which are a slot's words and a block's words in main memory.
+#![tactic(auto)]
+
 ghost use Rattle.std.specs.Prelude.{◌≡◌, ◌+◌, ◌≤◌, ◌<◌, length, set, eqb};
 ghost use Rattle.std.proofs.lemmas.List.Edits.{sets};
 ghost use Rattle.protocol_types.specs.Lists.{at, part, zeros, all};

@@ -1,4 +1,6 @@
 // The types of the board, the engine and the rival, the refusal numbers, and the methods of a setup. The rules are in protocol.
+#![tactic(auto)]
+
 ghost use Rattle.std.specs.Prelude.{◌≡◌, ◌*◌, ◌<◌};
 ghost use Rattle.protocol_types.specs.Board.{within, sizes_in_range, prices_in_range, setup_refusal, fetch_price, write_back_price, most_write_back, Fits, variables, block_of, offset_of, line_of, slots, line_slot, Placed};
 ghost use Rattle.protocol_types.specs.Conditions.{variable_refusal, named_refusal, request_refusal};

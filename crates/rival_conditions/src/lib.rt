@@ -1,4 +1,6 @@
 // What an entry costs, and when it is refused.
+#![tactic(auto)]
+
 ghost use Rattle.std.specs.Prelude.{◌≡◌, cond, List, [], ℕ, ◌<◌, length};
 ghost use Rattle.protocol_types.specs.Refusals.{no_refusal, unless, completion_not_held};
 ghost use Rattle.protocol_types.specs.Board.{Fits, slots};

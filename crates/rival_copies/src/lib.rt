@@ -1,4 +1,6 @@
 // A rival's copies: who has one, and what an entry does to them.
+#![tactic(auto)]
+
 ghost use Rattle.std.specs.Prelude.{◌≡◌, List, [], ◌∷◌, ℕ, ◌<◌, length};
 ghost use Rattle.protocol_types.specs.Refusals.{no_refusal};
 ghost use Rattle.protocol_types.specs.Board.{Fits, slots};

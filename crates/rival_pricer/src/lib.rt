@@ -1,4 +1,6 @@
 // The price of a rival's schedule for a list of requests.
+#![tactic(auto)]
+
 ghost use Rattle.std.specs.Prelude.{◌≡◌};
 ghost use Rattle.protocol.specs.Pricer.{price as priced, price_tables, in_numbers, price_numbers};
 ghost use Rattle.rival_copies.specs.Copies.{rival_before, rival_after};

@@ -1,4 +1,6 @@
 // Pricing between two entries: at a place, waiting for a request, stopped; and what is checked before the first entry.
+#![tactic(auto)]
+
 ghost use Rattle.std.specs.Prelude.{◌≡◌, ◌&&◌, leb};
 ghost use Rattle.protocol_types.specs.Board.{Fits};
 ghost use Rattle.protocol.specs.Rival.{rival_sized, RivalSized, no_copies};

@@ -1,4 +1,6 @@
 // A rival's schedule priced entry by entry: the start, an entry, and the request of a completion.
+#![tactic(auto)]
+
 ghost use Rattle.std.specs.Prelude.{◌≡◌};
 ghost use Rattle.rival_copies.specs.Copies.{rival_lent, rival_before, rival_after};
 ghost use Rattle.rival_pricing.specs.Stages.{price_stage, price_begun, took, completed, PriceReady, Due};

@@ -1,4 +1,6 @@
 // A run over a lent list of requests, on the lent tables and the lent account.
+#![tactic(auto)]
+
 ghost use Rattle.std.specs.Prelude.{◌≡◌};
 ghost use Rattle.protocol.specs.Lent.{masked_before, masked_after};
 ghost use Rattle.protocol.specs.Engines.{run as ran};

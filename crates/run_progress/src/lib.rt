@@ -1,4 +1,6 @@
 // A run between two requests, whatever the engine: what is checked of the account, and how the run goes on or stops.
+#![tactic(auto)]
+
 ghost use Rattle.std.specs.Prelude.{◌≡◌, false, cond, ltb, eqb, ◌*◌, ◌<◌, ◌^◌};
 ghost use Rattle.protocol_types.specs.Refusals.{no_refusal};
 ghost use Rattle.protocol_types.specs.Board.{Fits};

@@ -1,4 +1,6 @@
 // The covered halves of a run: what is checked before its first request, and one request.
+#![tactic(auto)]
+
 ghost use Rattle.std.specs.Prelude.{◌≡◌};
 ghost use Rattle.protocol.specs.Lent.{lent_masked, masked_before, masked_after};
 ghost use Rattle.protocol.specs.Runs.{masked_refusal, masked_engine};

@@ -1,4 +1,6 @@
 // A din trace counted over lent tables, in chunks of any size. Only a few numbers are kept between two chunks.
+#![tactic(auto)]
+
 ghost use Rattle.std.specs.Prelude.{◌≡◌, ◌≤◌, length, drop};
 ghost use Rattle.protocol.specs.Tables.{fresh};
 ghost use Rattle.protocol.specs.Lent.{lent, before, after, TrueMasks};

@@ -1,4 +1,6 @@
 // What a trace has come to so far, and its current line counted over the lent tables.
+#![tactic(auto)]
+
 ghost use Rattle.std.specs.Prelude.{◌≡◌, ◌<◌};
 ghost use Rattle.protocol.specs.Lent.{lent, before, after, TrueMasks};
 ghost use Rattle.protocol.specs.Masks.{masks_of};

@@ -1,4 +1,6 @@
 // The lines of a din trace, parsed where they lie.
+#![tactic(auto)]
+
 ghost use Rattle.std.specs.Prelude.{◌≡◌, ◌<◌, ◌≤◌, length};
 ghost use Rattle.trace_din.specs.Lines.{is_text, is_digit, is_blank, is_gap, hex_value};
 ghost use Rattle.trace_din.specs.Digits.{shifted};

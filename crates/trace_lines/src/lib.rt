@@ -1,4 +1,6 @@
 // What a line of a trace asks for.
+#![tactic(auto)]
+
 ghost use Rattle.std.specs.Prelude.{◌≡◌};
 ghost use Rattle.trace_lines.specs.Trace.{trace_setup, processor_at, variable_at, read_at, write_at, clear_at, interpreted_label, interpreted};
 

@@ -1,4 +1,6 @@
 // Reads a din trace on standard input and prints what it came to.
+#![tactic(auto)]
+
 ghost use Rattle.std.specs.Prelude.{◌≡◌};
 ghost use Rattle.protocol.specs.Tables.{fresh};
 ghost use Rattle.protocol.specs.Lent.{lent, before, after, TrueMasks};

@@ -1,4 +1,6 @@
 // A line of a din trace that is not whole yet. Only a few numbers are kept of it, however long it is.
+#![tactic(auto)]
+
 ghost use Rattle.std.specs.Prelude.{◌≡◌};
 ghost use Rattle.trace_scan.specs.Automaton.{after_blanks, after_digits, scanned_byte, new_line, with_byte, with_bytes, scan_parsed};
 

@@ -1,5 +1,7 @@
 // Random and chosen cases through starting, a look, and the run and the price over numbers, beside the model. Each answer
 // and each lent buffer is compared.
+#![tactic(auto)]
+
 mod asked;
 mod board;
 mod damage;

@@ -1,5 +1,7 @@
 // Random boards and requests through the search for the best schedule, beside an exact search and an engine that are coded apart. Each schedule
 // is played by the model's own rules, and each lent list is looked at to its end.
+#![tactic(auto)]
+
 mod asked;
 mod layout;
 mod least;

@@ -1,5 +1,7 @@
 // Random and chosen setups, seeds and lists through the generator over numbers, beside the model. Each answer and each
 // number of each lent list is compared, and each number after it.
+#![tactic(auto)]
+
 mod entry;
 mod layout;
 mod model;

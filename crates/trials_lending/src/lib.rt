@@ -1,5 +1,7 @@
 // The entries that are lent records, called as a host in the language calls them: the records stand in local arrays, and the
 // account in a local, which are lent for the call.
+#![tactic(auto)]
+
 ghost use Rattle.std.specs.Prelude.{◌≡◌, length};
 ghost use Rattle.protocol.specs.Lent.{masked_before, masked_after};
 ghost use Rattle.protocol.specs.Engines.{run as ran};

@@ -1,5 +1,7 @@
 // The entries that are lent records, `run`, `price` and `generate`, beside the entries over plain numbers on the same lists:
 // each answer, the account, the values, every table, the masks and every generated request are compared.
+#![tactic(auto)]
+
 mod board;
 mod generated;
 mod lists;

@@ -1,4 +1,6 @@
 // Random din traces through the count of a trace, beside the model. Each answer and each lent buffer is compared.
+#![tactic(auto)]
+
 mod entry;
 mod layout;
 mod reading;

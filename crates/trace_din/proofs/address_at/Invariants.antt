@@ -1,0 +1,16 @@
+use Prim.Native.Nat.{ℕ, ◌+◌, ◌-◌, ◌≤◌}
+use mathlib.Core.Path.{◌≡◌, refl, sym, ap, ◌∙◌}
+use native.Mathlib.Omega.{arith}
+use lib.ListN.{length, drop}
+use Rattle.trace_din.specs.Lines.{is_hex, leading}
+use Rattle.trace_din.specs.Digits.{shifted, shifted_all}
+use Rattle.trace_din.proofs.Leading.{leads, leads-not, leads-end, is-hex, not-hex}
+use Rattle.trace_din.proofs.address_at.Given as goal
+
+abbrev pub invariant-loop-i : goal.invariant-loop-i
+invariant-loop-i l =
+    (l.i ≤ length l.bytes) × (l.from + length (leading is_hex (drop l.from l.bytes)) ≡ l.i + length (leading is_hex (drop l.i l.bytes)))
+    × (shifted_all 0 (leading is_hex (drop l.from l.bytes)) ≡ shifted_all l.number (leading is_hex (drop l.i l.bytes)))
+
+abbrev pub decreases-loop-i : goal.decreases-loop-i
+decreases-loop-i l = length l.bytes - l.i
