@@ -6,16 +6,16 @@ use mathlib.Core.Bool.{Bool, true, false, ◌&&◌, cond, true≢false}
 use mathlib.Core.List.{List, [], ◌∷◌}
 use native.Mathlib.Omega.{arith}
 use native.Mathlib.Nat.{mul-suc, mul-le-mul_left}
-use lib.ListN.{length, set}
+use lib.ListN.{length}
 use lib.Dec.{leb, ltb, eqb}
-use borrow.Author.Tests.{leb-true, leb-false, eqb-true, eqb-false, eq-eqb, ne_eqb, ltb-true, ltb-false, lt-leb, le-leb}
+use borrow.Author.Tests.{leb-true, leb-false, eqb-true, eqb-false, ltb-true, lt-leb}
 use Rattle.protocol_types.specs.Lists.{at}
-use Rattle.protocol_types.proofs.Laws.{Same, same, apart, same?, Under, under, under?, Known, sure, not_so, known, both_true, choice}
+use Rattle.protocol_types.proofs.Laws.{Under, under, under?, both_true, choice}
 use Rattle.protocol_types.proofs.Laws.{over as not-under}
 use Rattle.best_search.specs.Search.{Graph, size, State, Tried, initial, closed, moved, onward, lowered, relaxed, past, ready, tick, used, over, halts, run, searched}
-use Rattle.best_search.specs.Search.{from_of, by_of, route, forward, trail, walk, Lawful, total, was_tried, EachTried, Best}
-use Rattle.best_search.proofs.Invariant.{Passed, before, now, Core, Parent, Above, settled, current}
-use Rattle.best_search.proofs.Machine.{at-below, nonzeros, nonzeros-le, nonzeros-lt, Bound, Closed, Shape, Record, Inv}
+use Rattle.best_search.specs.Search.{from_of, by_of, route, forward, trail, walk, Lawful, total, EachTried, Best}
+use Rattle.best_search.proofs.Invariant.{before, Parent, Above, settled, current}
+use Rattle.best_search.proofs.Machine.{at-below, nonzeros-le, nonzeros-lt, Closed, Inv}
 use Rattle.best_search.proofs.Tick.{initial-inv, tick-inv}
 
 -- ---- one move, by cases

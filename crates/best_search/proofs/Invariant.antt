@@ -1,8 +1,8 @@
 -- The invariant of the search, over its tables as functions: what a try and a settled position do to it.
-use Prim.Native.Nat.{ℕ, zero, suc, ◌+◌, ◌-◌, ◌*◌, ◌≤◌, ◌<◌}
+use Prim.Native.Nat.{ℕ, suc, ◌+◌, ◌≤◌, ◌<◌}
 use mathlib.Core.Path.{◌≡◌, refl, sym, ap, ◌∙◌}
 use mathlib.Core.Logic.{◌≢◌}
-use mathlib.Core.Bool.{Bool, true, false, true≢false}
+use mathlib.Core.Bool.{true}
 use native.Mathlib.Omega.{arith}
 use Rattle.protocol_types.proofs.Laws.{Same, same, apart, same?, Under, under, over, under?}
 use Rattle.best_search.specs.Search.{Graph, size, layer}

@@ -1,20 +1,19 @@
 -- The search as a loop that makes one move at a time: what is left of the fuel is a number that falls by 1.
 use Prim.Native.Nat.{ℕ, zero, suc, ◌+◌, ◌-◌, ◌*◌, ◌≤◌, ◌<◌}
 use mathlib.Core.Path.{◌≡◌, refl, sym, ap, ◌∙◌}
-use mathlib.Core.Bool.{Bool, true, false, ◌&&◌, cond, true≢false}
-use mathlib.Core.List.{List, [], ◌∷◌}
+use mathlib.Core.Bool.{Bool, true, false, ◌&&◌, cond}
 use native.Mathlib.Omega.{arith}
 use native.Mathlib.Nat.{mul-suc, mul-le-mul_left}
-use lib.Dec.{leb, ltb, eqb}
-use borrow.Author.Tests.{ltb-true, ltb-false, leb-true, leb-false, eqb-true}
+use lib.Dec.{ltb, eqb}
+use borrow.Author.Tests.{ltb-true, ltb-false, eqb-true}
 use Rattle.protocol_types.specs.Lists.{at}
 use lib.ListN.{set}
 use mathlib.Core.Logic.{◌≢◌}
 use Rattle.protocol_types.proofs.Laws.{choice, at_set_other}
-use Rattle.best_search.specs.Search.{Graph, size, layer, State, upcoming, initial, closed, moved, onward, lowered, relaxed, past, ready, tick, halts, run, searched}
+use Rattle.best_search.specs.Search.{Graph, size, layer, State, initial, closed, moved, onward, lowered, relaxed, past, ready, tick, halts, run, searched}
 use Rattle.best_search.proofs.Invariant.{falls-open}
 use Rattle.best_search.proofs.Machine.{Closed, Inv}
-use Rattle.best_search.proofs.Tick.{Next, none, found, Open, upcoming-is, layer-lt, initial-inv, tick-inv}
+use Rattle.best_search.proofs.Tick.{Next, none, found, upcoming-is, layer-lt, initial-inv, tick-inv}
 use Rattle.best_search.proofs.Answer.{few-settled, goes}
 
 -- moves left

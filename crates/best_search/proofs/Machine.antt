@@ -5,15 +5,13 @@ use mathlib.Core.Logic.{◌≢◌}
 use mathlib.Core.Bool.{Bool, true, false, ◌&&◌, cond, true≢false}
 use mathlib.Core.List.{List, [], ◌∷◌}
 use native.Mathlib.Omega.{arith}
-use native.Mathlib.Nat.{mul-suc, mul-le-mul_left}
-use lib.ListN.{length, set, replicate, length-set, length-replicate, get_or-replicate, get_or-eq_default}
-use lib.Dec.{leb, ltb, eqb}
-use borrow.Author.Tests.{leb-true, leb-false, eqb-true, eqb-false, eq-eqb, ne_eqb, ltb-true, ltb-false}
+use lib.ListN.{length, set, replicate, get_or-eq_default}
+use lib.Dec.{leb, eqb}
+use borrow.Author.Tests.{leb-true, leb-false, eqb-true, eq-eqb}
 use Rattle.protocol_types.specs.Lists.{at}
-use Rattle.protocol_types.proofs.Laws.{Same, same, apart, same?, Under, under, over, under?, Known, sure, not_so, known, both_true, choice, at_set_same, at_set_other}
-use Rattle.best_search.specs.Search
-use Rattle.best_search.specs.Search.{Graph, size, layer, State, Tried, initial, open?, cheapest, closed, moved, onward, lowered, relaxed, past, ready, tick, from_of, by_of, is, was_tried, reached, Trace}
-use Rattle.best_search.proofs.Invariant.{Passed, before, now, Core, lower, lower-fits, pass, settle}
+use Rattle.protocol_types.proofs.Laws.{Same, same, apart, same?, Under, under, over, under?, both_true, choice}
+use Rattle.best_search.specs.Search.{Graph, size, layer, State, Tried, from_of, by_of, is, was_tried, reached, Trace}
+use Rattle.best_search.proofs.Invariant.{Passed, Core}
 
 -- ---- lists
 

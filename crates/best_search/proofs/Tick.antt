@@ -3,18 +3,18 @@ use Prim.Native.Nat.{ℕ, zero, suc, ◌+◌, ◌-◌, ◌*◌, ◌/◌, ◌%◌
 use mathlib.Core.Path.{◌≡◌, refl, sym, ap, ◌∙◌}
 use mathlib.Core.Logic.{◌≢◌}
 use mathlib.Core.Bool.{Bool, true, false, ◌&&◌, cond, true≢false}
-use mathlib.Core.List.{List, [], ◌∷◌}
+use mathlib.Core.List.{List, ◌∷◌}
 use native.Mathlib.Omega.{arith}
-use native.Mathlib.Nat.{mul-suc, mul-le-mul_left, mul-le-mul_right, suc-mul, div-lt_iff_lt-mul, div-add-mod', mod-lt, mul_comm, zero-div}
-use lib.ListN.{length, set, replicate, length-set, length-replicate}
-use lib.Dec.{leb, ltb, eqb}
-use borrow.Author.Tests.{leb-true, leb-false, eqb-true, eqb-false, eq-eqb, ne_eqb, ltb-true, ltb-false, lt-ltb, le-ltb, le-leb}
+use native.Mathlib.Nat.{mul-suc, mul-le-mul_right, suc-mul, div-lt_iff_lt-mul, div-add-mod', mod-lt, mul_comm, zero-div}
+use lib.ListN.{set, replicate, length-set, length-replicate}
+use lib.Dec.{leb, ltb}
+use borrow.Author.Tests.{leb-true, eqb-true, eq-eqb, ltb-true, ltb-false, lt-ltb, le-ltb, le-leb}
 use Rattle.protocol_types.specs.Lists.{at}
-use Rattle.protocol_types.proofs.Laws.{Same, same, apart, same?, Under, under, over, under?, Known, sure, not_so, known, both_true, three-true, choice, at_set, at_set_same, at_set_other, at-zeros}
+use Rattle.protocol_types.proofs.Laws.{Same, same, apart, same?, Under, under, over, under?, both_true, three-true, choice, at_set, at_set_same, at_set_other, at-zeros}
 use Rattle.protocol_types.proofs.Board.{row-div, row-mod}
-use Rattle.best_search.specs.Search.{Graph, size, layer, cheaper, upcoming, State, Tried, initial, open?, cheapest, closed, moved, onward, lowered, relaxed, past, ready, tick, from_of, by_of, is, was_tried, reached, Trace}
-use Rattle.best_search.proofs.Invariant.{Passed, before, now, Lower, earlier, level, Core, lower, lower-fits, pass, settle, tighten}
-use Rattle.best_search.proofs.Machine.{at_out, at-below, nonzeros, nonzeros-replicate, nonzeros-lt, nonzeros-set, Bound, bound-lower, was_tried-cons, reached-cons, reached-first, Closed, Shape, Record, Ended, Inv}
+use Rattle.best_search.specs.Search.{Graph, size, layer, cheaper, upcoming, State, Tried, initial, open?, cheapest, closed, moved, onward, lowered, relaxed, past, ready, tick, from_of, by_of, was_tried, reached, Trace}
+use Rattle.best_search.proofs.Invariant.{Passed, before, now, Lower, earlier, level, lower, lower-fits, pass, settle, tighten}
+use Rattle.best_search.proofs.Machine.{at_out, at-below, nonzeros-replicate, nonzeros-set, bound-lower, was_tried-cons, reached-cons, reached-first, Closed, Inv}
 
 -- ---- the start
 

@@ -7,7 +7,7 @@ use native.Mathlib.Omega.{arith}
 use native.Mathlib.Nat.{mod-lt, div-add-mod'}
 use lib.Dec.{leb, ltb, eqb}
 use borrow.Author.Tests.{not-true, ltb-true, leb-true, eqb-true, eqb-false, lt-ltb, le-leb, eq-eqb, ne_eqb}
-use Rattle.protocol_types.specs.Lists.{at, all}
+use Rattle.protocol_types.specs.Lists.{all}
 use Rattle.protocol_types.specs.Board.{Fits, slots, slot, line_of, fetch_price}
 use Rattle.protocol.specs.Tables.{Tables, Sized, sized, counter, block, mark, word, memory_word, holds, sharing}
 use Rattle.protocol.specs.Soundness.{SlotSoundAt, Sound, empty_line, copy_line, sound_line, sound}

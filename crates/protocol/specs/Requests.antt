@@ -1,6 +1,5 @@
 -- One request: the tables after it, its value, and its bill (document 01, "What one request does"; a clear: document 02, P6).
 use Rattle.std.specs.Prelude.{ℕ}
-use Rattle.protocol_types.specs.Lists.{Each}
 use Rattle.protocol_types.specs.Board.{block_of, offset_of, slot}
 use Rattle.protocol.specs.Tables.{Tables, word}
 use Rattle.protocol.specs.Rules.{obtained, fetch_cycles, write_back_cycles, written, update_cycles, cleared, clear_cycles}

@@ -1,0 +1,24 @@
+-- The first kind that fits decides.
+use borrow.Author.Tests.{eq-eqb, ne_eqb}
+use Rattle.host_decoding.specs.Records.{entry_of}
+use Rattle.host_decoding.proofs.entry_of.Goals as goal
+
+pub returns-then-kind-eq0 : goal.returns-then-kind-eq0
+unfolding entry_of
+returns-then-kind-eq0 c = simp (eq-eqb _ _ c.if-kind-eq0.true)
+
+pub returns-then-kind-eq1 : goal.returns-then-kind-eq1
+unfolding entry_of
+returns-then-kind-eq1 c = simp (ne_eqb _ _ c.if-kind-eq0.false, eq-eqb _ _ c.if-kind-eq1.true)
+
+pub returns-then-kind-eq2 : goal.returns-then-kind-eq2
+unfolding entry_of
+returns-then-kind-eq2 c = simp (ne_eqb _ _ c.if-kind-eq0.false, ne_eqb _ _ c.if-kind-eq1.false, eq-eqb _ _ c.if-kind-eq2.true)
+
+pub returns-then-kind-eq3 : goal.returns-then-kind-eq3
+unfolding entry_of
+returns-then-kind-eq3 c = simp (ne_eqb _ _ c.if-kind-eq0.false, ne_eqb _ _ c.if-kind-eq1.false, ne_eqb _ _ c.if-kind-eq2.false, eq-eqb _ _ c.if-kind-eq3.true)
+
+pub returns : goal.returns
+unfolding entry_of
+returns c = simp (ne_eqb _ _ c.if-kind-eq0.false, ne_eqb _ _ c.if-kind-eq1.false, ne_eqb _ _ c.if-kind-eq2.false, ne_eqb _ _ c.if-kind-eq3.false)
