@@ -4,7 +4,7 @@
 ghost use Rattle.std.specs.Prelude.{◌≡◌, ◌≢◌, length};
 ghost use Rattle.protocol_types.specs.Refusals.{no_refusal};
 ghost use Rattle.best_positions.specs.Best.{search_sized, best_refusal, best_answer, best_list};
-ghost use Rattle.best_schedule.specs.Lent.{search_before, search_after};
+ghost use Rattle.best_schedule.specs.Lent.{search_lent};
 
 use protocol_types::{BestAnswer, Entry, Request, Setup};
 
@@ -19,10 +19,10 @@ pub fn best(
     list: &mut [Entry],
     steps: u32,
 ) -> BestAnswer
-    ensures { (result ≡ best_answer setup requests.now steps (search_sized (search_before distances order predecessors lowest) (length list.old)))
-        × (list.new ≡ best_list setup requests.now steps (search_sized (search_before distances order predecessors lowest) (length list.old)) list.old)
-        × (best_refusal setup requests.now (search_sized (search_before distances order predecessors lowest) (length list.old)) ≢ no_refusal
-        → search_after distances order predecessors lowest ≡ search_before distances order predecessors lowest) }
+    ensures { (result ≡ best_answer setup requests.now steps (search_sized (search_lent distances.old order.old predecessors.old lowest.old) (length list.old)))
+        × (list.new ≡ best_list setup requests.now steps (search_sized (search_lent distances.old order.old predecessors.old lowest.old) (length list.old)) list.old)
+        × (best_refusal setup requests.now (search_sized (search_lent distances.old order.old predecessors.old lowest.old) (length list.old)) ≢ no_refusal
+        → search_lent distances.new order.new predecessors.new lowest.new ≡ search_lent distances.old order.old predecessors.old lowest.old) }
 {
     let mut p = best_steps::begin(
         setup,

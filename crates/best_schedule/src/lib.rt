@@ -5,7 +5,7 @@ ghost use Rattle.std.specs.Prelude.{◌≡◌, ◌≢◌, ◌++◌, ℕ, ◌-◌
 ghost use Rattle.protocol_types.specs.Board.{Fits};
 ghost use Rattle.protocol_types.specs.Lists.{at};
 ghost use Rattle.best_way.specs.Hops.{hops};
-ghost use Rattle.best_schedule.specs.Lent.{search_lent, search_after, TablesFit};
+ghost use Rattle.best_schedule.specs.Lent.{search_lent, TablesFit};
 ghost use Rattle.best_schedule.specs.Found.{numbers_to, best_found, tables_after};
 
 use protocol_types::{BestSchedule, Setup};
@@ -58,9 +58,9 @@ pub fn find<'a>(
     lowest: &'a mut [u32],
 ) -> BestSchedule
     requires fits { Fits setup × (setup.blocks ≤ 4) × (length asks.now ≤ 24) }
-    requires tables_fit { TablesFit (search_lent distances order predecessors lowest) }
+    requires tables_fit { TablesFit (search_lent distances.old order.old predecessors.old lowest.old) }
     ensures value { result ≡ best_found setup asks.now steps }
-    ensures tables { search_after distances order predecessors lowest ≡ tables_after setup asks.now steps }
+    ensures tables { search_lent distances.new order.new predecessors.new lowest.new ≡ tables_after setup asks.now steps }
 {
     let own = best_own::own_actions(setup, asks, distances);
     let p = best_finder::search(

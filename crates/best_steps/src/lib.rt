@@ -8,7 +8,7 @@ ghost use Rattle.protocol_types.specs.Conditions.{Named};
 ghost use Rattle.best_positions.specs.Position.{asked_by};
 ghost use Rattle.best_positions.specs.Position.{entry_from};
 ghost use Rattle.best_positions.specs.Best.{searchable, search_refusal};
-ghost use Rattle.best_schedule.specs.Lent.{search_lent, search_before, search_after, TablesFit};
+ghost use Rattle.best_schedule.specs.Lent.{search_lent, TablesFit};
 ghost use Rattle.best_steps.specs.Steps.{lengths_fit, best_stage, stopped, asking_at, storing_at, search_done, begun, took, turned, Asking};
 
 use protocol_types::{BestAnswer, BestSchedule, Entry, Operation, Request, Setup, Variable};
@@ -168,8 +168,8 @@ fn search<'a>(
     lowest: &'a mut [u32],
 ) -> BestProgress
     requires fits { Fits setup × (setup.blocks ≤ 4) × (count ≤ 24) }
-    requires tables_fit { TablesFit (search_lent distances order predecessors lowest) }
-    ensures { best_stage result (search_after distances order predecessors lowest) ≡ search_done setup (take count asks) steps }
+    requires tables_fit { TablesFit (search_lent distances.old order.old predecessors.old lowest.old) }
+    ensures { best_stage result (search_lent distances.new order.new predecessors.new lowest.new) ≡ search_done setup (take count asks) steps }
 {
     let best = best_schedule::find(
         setup,
@@ -194,8 +194,8 @@ pub fn begin<'a>(
     entries: usize,
     steps: u32,
 ) -> BestProgress
-    ensures { best_stage result (search_after distances order predecessors lowest)
-        ≡ begun setup (search_before distances order predecessors lowest) count entries steps }
+    ensures { best_stage result (search_lent distances.new order.new predecessors.new lowest.new)
+        ≡ begun setup (search_lent distances.old order.old predecessors.old lowest.old) count entries steps }
 {
     let fits = lengths_fit(
         distances.len(),
@@ -254,9 +254,9 @@ pub fn take<'a>(
     p: BestProgress,
     request: Request,
 ) -> BestProgress
-    requires { Asking setup (best_stage p (search_lent distances order predecessors lowest)) }
-    ensures { best_stage result (search_after distances order predecessors lowest)
-        ≡ took setup (best_stage p (search_before distances order predecessors lowest)) request }
+    requires { Asking setup (best_stage p (search_lent distances.old order.old predecessors.old lowest.old)) }
+    ensures { best_stage result (search_lent distances.new order.new predecessors.new lowest.new)
+        ≡ took setup (best_stage p (search_lent distances.old order.old predecessors.old lowest.old)) request }
 {
     let refusal = setup.request_refusal(0, request);
     if refusal != protocol_types::NO_REFUSAL {

@@ -3,7 +3,7 @@
 
 ghost use Rattle.std.specs.Prelude.{◌≡◌, ◌<◌};
 ghost use Rattle.protocol_types.specs.Board.{Fits, variables};
-ghost use Rattle.protocol.specs.Lent.{lent, before, after, TrueMasks};
+ghost use Rattle.protocol.specs.Lent.{lent, TrueMasks};
 ghost use Rattle.protocol.specs.Masks.{masks_of};
 ghost use Rattle.protocol.specs.Rules.{obtained};
 ghost use Rattle.protocol_types.specs.Conditions.{Valid};
@@ -40,11 +40,11 @@ fn obtain(
     requires fits { Fits setup }
     requires processor_lt_processors { processor < setup.processors }
     requires block_lt_blocks { block.0 < setup.blocks }
-    requires usable { Usable setup (lent blocks counters marks words memory) }
-    requires true_masks { TrueMasks setup (lent blocks counters marks words memory) masks }
-    ensures value { result ≡ obtain_bill setup (before blocks counters marks words memory) processor block }
-    ensures memory_value { after blocks counters marks words memory ≡ obtained setup (before blocks counters marks words memory) processor block }
-    ensures masks_after { masks.new ≡ masks_of setup (after blocks counters marks words memory) }
+    requires usable { Usable setup (lent blocks.old counters.old marks.old words.old memory.old) }
+    requires true_masks { TrueMasks setup (lent blocks.old counters.old marks.old words.old memory.old) masks.old }
+    ensures value { result ≡ obtain_bill setup (lent blocks.old counters.old marks.old words.old memory.old) processor block }
+    ensures memory_value { lent blocks.new counters.new marks.new words.new memory.new ≡ obtained setup (lent blocks.old counters.old marks.old words.old memory.old) processor block }
+    ensures masks_after { masks.new ≡ masks_of setup (lent blocks.new counters.new marks.new words.new memory.new) }
 {
     if holds(setup, processor, block, blocks, counters) {
         return Bill {
@@ -99,12 +99,12 @@ fn serve_access(
     requires fits { Fits setup }
     requires i_lt_processors { i < setup.processors }
     requires variable_bound { access.variable.0 < variables setup }
-    requires usable { Usable setup (lent blocks counters marks words memory) }
-    requires true_masks { TrueMasks setup (lent blocks counters marks words memory) masks }
-    ensures value_value { result.value ≡ value_by setup (before blocks counters marks words memory) i (operation_of access) }
-    ensures bill_value { result.bill ≡ bill_by setup (before blocks counters marks words memory) i (operation_of access) }
-    ensures memory_value { after blocks counters marks words memory ≡ served_by setup (before blocks counters marks words memory) i (operation_of access) }
-    ensures masks_after { masks.new ≡ masks_of setup (after blocks counters marks words memory) }
+    requires usable { Usable setup (lent blocks.old counters.old marks.old words.old memory.old) }
+    requires true_masks { TrueMasks setup (lent blocks.old counters.old marks.old words.old memory.old) masks.old }
+    ensures value_value { result.value ≡ value_by setup (lent blocks.old counters.old marks.old words.old memory.old) i (operation_of access) }
+    ensures bill_value { result.bill ≡ bill_by setup (lent blocks.old counters.old marks.old words.old memory.old) i (operation_of access) }
+    ensures memory_value { lent blocks.new counters.new marks.new words.new memory.new ≡ served_by setup (lent blocks.old counters.old marks.old words.old memory.old) i (operation_of access) }
+    ensures masks_after { masks.new ≡ masks_of setup (lent blocks.new counters.new marks.new words.new memory.new) }
 {
     let variable = access.variable;
     let effect = access.effect;
@@ -150,12 +150,12 @@ fn serve_clear(
 ) -> Served
     requires fits { Fits setup }
     requires i_lt_processors { i < setup.processors }
-    requires usable { Usable setup (lent blocks counters marks words memory) }
-    requires true_masks { TrueMasks setup (lent blocks counters marks words memory) masks }
-    ensures value_value { result.value ≡ value_by setup (before blocks counters marks words memory) i Operation.Clear }
-    ensures bill_value { result.bill ≡ bill_by setup (before blocks counters marks words memory) i Operation.Clear }
-    ensures memory_value { after blocks counters marks words memory ≡ served_by setup (before blocks counters marks words memory) i Operation.Clear }
-    ensures masks_after { masks.new ≡ masks_of setup (after blocks counters marks words memory) }
+    requires usable { Usable setup (lent blocks.old counters.old marks.old words.old memory.old) }
+    requires true_masks { TrueMasks setup (lent blocks.old counters.old marks.old words.old memory.old) masks.old }
+    ensures value_value { result.value ≡ value_by setup (lent blocks.old counters.old marks.old words.old memory.old) i Operation.Clear }
+    ensures bill_value { result.bill ≡ bill_by setup (lent blocks.old counters.old marks.old words.old memory.old) i Operation.Clear }
+    ensures memory_value { lent blocks.new counters.new marks.new words.new memory.new ≡ served_by setup (lent blocks.old counters.old marks.old words.old memory.old) i Operation.Clear }
+    ensures masks_after { masks.new ≡ masks_of setup (lent blocks.new counters.new marks.new words.new memory.new) }
 {
     let write_back = clear(setup, i, blocks, counters, marks, words, memory, masks);
     Served {
@@ -181,12 +181,12 @@ pub fn serve(
 ) -> Served
     requires fits { Fits setup }
     requires valid { Valid setup request }
-    requires usable { Usable setup (lent blocks counters marks words memory) }
-    requires true_masks { TrueMasks setup (lent blocks counters marks words memory) masks }
-    ensures value_value { result.value ≡ value setup (before blocks counters marks words memory) request }
-    ensures bill_value { result.bill ≡ bill setup (before blocks counters marks words memory) request }
-    ensures memory_value { after blocks counters marks words memory ≡ served setup (before blocks counters marks words memory) request }
-    ensures masks_after { masks.new ≡ masks_of setup (after blocks counters marks words memory) }
+    requires usable { Usable setup (lent blocks.old counters.old marks.old words.old memory.old) }
+    requires true_masks { TrueMasks setup (lent blocks.old counters.old marks.old words.old memory.old) masks.old }
+    ensures value_value { result.value ≡ value setup (lent blocks.old counters.old marks.old words.old memory.old) request }
+    ensures bill_value { result.bill ≡ bill setup (lent blocks.old counters.old marks.old words.old memory.old) request }
+    ensures memory_value { lent blocks.new counters.new marks.new words.new memory.new ≡ served setup (lent blocks.old counters.old marks.old words.old memory.old) request }
+    ensures masks_after { masks.new ≡ masks_of setup (lent blocks.new counters.new marks.new words.new memory.new) }
 {
     let operation = request.operation;
     let access = match operation {

@@ -5,7 +5,7 @@ ghost use Rattle.std.specs.Prelude.{◌≡◌, List, ℕ, ◌<◌};
 ghost use Rattle.protocol_types.specs.Lists.{at};
 ghost use Rattle.protocol_types.specs.Board.{Fits, slots};
 ghost use Rattle.protocol.specs.Tables.{Sized};
-ghost use Rattle.protocol.specs.Lent.{lent, before, after, unlent, PerSlot, PerSlotWord, PerVariable, TrueMasks};
+ghost use Rattle.protocol.specs.Lent.{lent, PerSlot, PerSlotWord, PerVariable, TrueMasks};
 ghost use Rattle.protocol.specs.Masks.{masks_of};
 ghost use Rattle.engine_masks.specs.Copies.{Proper, StandsAt};
 ghost use Rattle.protocol.specs.Rules.{emptied, written_back, saved, save_cycles, evicted, cleared, clear_cycles};
@@ -24,8 +24,8 @@ pub fn empty_line(
     words: &mut [u32],
 )
     requires k_bound { k < slots setup }
-    requires per_slot { PerSlot setup blocks × PerSlot setup counters × PerSlot setup marks × PerSlotWord setup words }
-    ensures { (g : List ℕ) → after blocks counters marks words (unlent g) ≡ emptied setup (before blocks counters marks words (unlent g)) k }
+    requires per_slot { PerSlot setup blocks.old × PerSlot setup counters.old × PerSlot setup marks.old × PerSlotWord setup words.old }
+    ensures { (g : List ℕ) → lent blocks.new counters.new marks.new words.new g ≡ emptied setup (lent blocks.old counters.old marks.old words.old g) k }
 {
     blocks[k] = 0;
     counters[k] = 0;
@@ -44,8 +44,8 @@ pub fn write_back(
 )
     requires from_bound { from < slots setup }
     requires from_bound_2 { at blocks.now from < setup.blocks }
-    requires per_slot { PerSlot setup blocks × PerSlot setup marks × PerSlotWord setup words × PerVariable setup memory }
-    ensures { (c : List ℕ) → after blocks (unlent c) marks words memory ≡ written_back setup (before blocks (unlent c) marks words memory) from }
+    requires per_slot { PerSlot setup blocks.now × PerSlot setup marks.old × PerSlotWord setup words.now × PerVariable setup memory.old }
+    ensures { (c : List ℕ) → lent blocks.now c marks.new words.now memory.new ≡ written_back setup (lent blocks.now c marks.old words.now memory.old) from }
 {
     let block = blocks[from] as usize;
     marks[from] = 0;
@@ -63,9 +63,9 @@ fn save(
 ) -> u32
     requires k_bound { k < slots setup }
     requires k_bound_2 { at blocks.now k < setup.blocks }
-    requires per_slot { PerSlot setup blocks × PerSlot setup marks × PerSlotWord setup words × PerVariable setup memory }
-    ensures by_index { (c : List ℕ) → result ≡ save_cycles setup (before blocks (unlent c) marks words memory) k }
-    ensures by_index_2 { (c : List ℕ) → after blocks (unlent c) marks words memory ≡ saved setup (before blocks (unlent c) marks words memory) k }
+    requires per_slot { PerSlot setup blocks.now × PerSlot setup marks.old × PerSlotWord setup words.now × PerVariable setup memory.old }
+    ensures by_index { (c : List ℕ) → result ≡ save_cycles setup (lent blocks.now c marks.old words.now memory.old) k }
+    ensures by_index_2 { (c : List ℕ) → lent blocks.now c marks.new words.now memory.new ≡ saved setup (lent blocks.now c marks.old words.now memory.old) k }
 {
     if marks[k] != 1 {
         return 0;
@@ -89,12 +89,12 @@ pub fn evict(
     requires fits { Fits setup }
     requires processor_lt_processors { (processor < setup.processors) × (k < slots setup) }
     requires k_bound { at blocks.old k < setup.blocks }
-    requires stands_at { StandsAt setup (lent blocks counters marks words memory) processor k }
-    requires sized { Sized setup (lent blocks counters marks words memory) }
-    requires true_masks { TrueMasks setup (lent blocks counters marks words memory) masks }
-    ensures value { result ≡ save_cycles setup (before blocks counters marks words memory) k }
-    ensures memory_value { after blocks counters marks words memory ≡ evicted setup (before blocks counters marks words memory) k }
-    ensures masks_after { masks.new ≡ masks_of setup (after blocks counters marks words memory) }
+    requires stands_at { StandsAt setup (lent blocks.old counters.old marks.old words.old memory.old) processor k }
+    requires sized { Sized setup (lent blocks.old counters.old marks.old words.old memory.old) }
+    requires true_masks { TrueMasks setup (lent blocks.old counters.old marks.old words.old memory.old) masks.old }
+    ensures value { result ≡ save_cycles setup (lent blocks.old counters.old marks.old words.old memory.old) k }
+    ensures memory_value { lent blocks.new counters.new marks.new words.new memory.new ≡ evicted setup (lent blocks.old counters.old marks.old words.old memory.old) k }
+    ensures masks_after { masks.new ≡ masks_of setup (lent blocks.new counters.new marks.new words.new memory.new) }
 {
     lose_at(processor, k, blocks, counters, masks);
     let cycles = save(setup, k, blocks, marks, words, memory);
@@ -116,12 +116,12 @@ pub fn clear(
     requires fits { Fits setup }
     requires i_lt_processors { i < setup.processors }
     requires by_index { (k : ℕ) → at blocks.old k < setup.blocks }
-    requires proper { Proper setup (lent blocks counters marks words memory) }
-    requires sized { Sized setup (lent blocks counters marks words memory) }
-    requires true_masks { TrueMasks setup (lent blocks counters marks words memory) masks }
-    ensures value { result ≡ clear_cycles setup (before blocks counters marks words memory) i setup.lines }
-    ensures memory_value { after blocks counters marks words memory ≡ cleared setup (before blocks counters marks words memory) i setup.lines }
-    ensures masks_after { masks.new ≡ masks_of setup (after blocks counters marks words memory) }
+    requires proper { Proper setup (lent blocks.old counters.old marks.old words.old memory.old) }
+    requires sized { Sized setup (lent blocks.old counters.old marks.old words.old memory.old) }
+    requires true_masks { TrueMasks setup (lent blocks.old counters.old marks.old words.old memory.old) masks.old }
+    ensures value { result ≡ clear_cycles setup (lent blocks.old counters.old marks.old words.old memory.old) i setup.lines }
+    ensures memory_value { lent blocks.new counters.new marks.new words.new memory.new ≡ cleared setup (lent blocks.old counters.old marks.old words.old memory.old) i setup.lines }
+    ensures masks_after { masks.new ≡ masks_of setup (lent blocks.new counters.new marks.new words.new memory.new) }
 {
     let n = setup.lines;
     let mut cycles = 0;

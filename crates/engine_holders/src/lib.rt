@@ -5,7 +5,7 @@ ghost use Rattle.std.specs.Prelude.{◌≡◌, List, ℕ, ◌^◌, ◌≤◌, �
 ghost use Rattle.protocol_types.specs.Board.{Fits};
 ghost use Rattle.protocol.specs.Tables.{holds_at, holds, sharing};
 ghost use Rattle.protocol.specs.Masks.{holders};
-ghost use Rattle.protocol.specs.Lent.{before, unlent, PerSlot, PerSlotWord};
+ghost use Rattle.protocol.specs.Lent.{lent, PerSlot, PerSlotWord};
 ghost use Rattle.protocol.specs.Rules.{payer, owner, updated_copies};
 ghost use Rattle.engine_holders.specs.Searches.{other_holds, other_holder, weaker};
 
@@ -16,7 +16,7 @@ use protocol_types::{Block, Setup};
 // Whether slot k holds a block. The block number is tested first: in a full cache it alone can differ.
 fn line_holds(k: usize, block: Block, blocks: &[u32], counters: &[u32]) -> bool
     requires { (k < length blocks.now) × (k < length counters.now) }
-    ensures { (m w g : List ℕ) → result ≡ holds_at (before blocks counters (unlent m) (unlent w) (unlent g)) k block }
+    ensures { (m w g : List ℕ) → result ≡ holds_at (lent blocks.now counters.now m w g) k block }
 {
     if blocks[k] != block.0 {
         return false;
@@ -28,8 +28,8 @@ fn line_holds(k: usize, block: Block, blocks: &[u32], counters: &[u32]) -> bool
 pub fn holds(setup: Setup, processor: u32, block: Block, blocks: &[u32], counters: &[u32]) -> bool
     requires fits { Fits setup }
     requires processor_lt_processors { processor < setup.processors }
-    requires per_slot { PerSlot setup blocks × PerSlot setup counters }
-    ensures { (m w g : List ℕ) → result ≡ holds setup (before blocks counters (unlent m) (unlent w) (unlent g)) processor block }
+    requires per_slot { PerSlot setup blocks.now × PerSlot setup counters.now }
+    ensures { (m w g : List ℕ) → result ≡ holds setup (lent blocks.now counters.now m w g) processor block }
 {
     line_holds(setup.slot(processor, block), block, blocks, counters)
 }
@@ -45,8 +45,8 @@ fn other_holds(
 ) -> bool
     requires fits { Fits setup }
     requires j_lt_processors { j < setup.processors }
-    requires per_slot { PerSlot setup blocks × PerSlot setup counters }
-    ensures { (m w g : List ℕ) → result ≡ other_holds setup (before blocks counters (unlent m) (unlent w) (unlent g)) processor block j }
+    requires per_slot { PerSlot setup blocks.now × PerSlot setup counters.now }
+    ensures { (m w g : List ℕ) → result ≡ other_holds setup (lent blocks.now counters.now m w g) processor block j }
 {
     if j == processor {
         return false;
@@ -59,8 +59,8 @@ fn other_holds(
 // (`few-processors` of `Fits`): `add-other` in proofs/other_holder proves that the next number always fits.
 fn other_holder(setup: Setup, processor: u32, block: Block, blocks: &[u32], counters: &[u32]) -> u32
     requires fits { Fits setup }
-    requires per_slot { PerSlot setup blocks × PerSlot setup counters }
-    ensures { (m w g : List ℕ) → result ≡ other_holder setup (before blocks counters (unlent m) (unlent w) (unlent g)) processor block }
+    requires per_slot { PerSlot setup blocks.now × PerSlot setup counters.now }
+    ensures { (m w g : List ℕ) → result ≡ other_holder setup (lent blocks.now counters.now m w g) processor block }
 {
     let n = setup.processors;
     let mut other: u8 = 0;
@@ -76,8 +76,8 @@ fn other_holder(setup: Setup, processor: u32, block: Block, blocks: &[u32], coun
 // Whether another processor holds a block.
 pub fn shares(setup: Setup, processor: u32, block: Block, blocks: &[u32], counters: &[u32]) -> bool
     requires fits { Fits setup }
-    requires per_slot { PerSlot setup blocks × PerSlot setup counters }
-    ensures { (m w g : List ℕ) → result ≡ sharing setup (before blocks counters (unlent m) (unlent w) (unlent g)) processor block }
+    requires per_slot { PerSlot setup blocks.now × PerSlot setup counters.now }
+    ensures { (m w g : List ℕ) → result ≡ sharing setup (lent blocks.now counters.now m w g) processor block }
 {
     other_holder(setup, processor, block, blocks, counters) < setup.processors
 }
@@ -86,8 +86,8 @@ pub fn shares(setup: Setup, processor: u32, block: Block, blocks: &[u32], counte
 fn weaker(setup: Setup, block: Block, weakest: u32, j: u32, counters: &[u32]) -> u32
     requires fits { Fits setup }
     requires weakest_le_processors { (weakest ≤ setup.processors) × (j < setup.processors) }
-    requires per_slot { PerSlot setup counters }
-    ensures value { (b m w g : List ℕ) → result ≡ weaker setup (before (unlent b) counters (unlent m) (unlent w) (unlent g)) block weakest j }
+    requires per_slot { PerSlot setup counters.now }
+    ensures value { (b m w g : List ℕ) → result ≡ weaker setup (lent b counters.now m w g) block weakest j }
     ensures upper_bound { result ≤ setup.processors }
 {
     if weakest == setup.processors {
@@ -106,9 +106,9 @@ pub fn payer(setup: Setup, processor: u32, block: Block, mask: u8, counters: &[u
     requires fits { Fits setup }
     requires processor_lt_processors { processor < setup.processors }
     requires mask_bound { mask < 2 ^ setup.processors }
-    requires per_slot { PerSlot setup counters }
-    ensures { (b m w g : List ℕ) → mask ≡ holders setup (before (unlent b) counters (unlent m) (unlent w) (unlent g)) block
-        → result ≡ payer setup (before (unlent b) counters (unlent m) (unlent w) (unlent g)) processor block }
+    requires per_slot { PerSlot setup counters.now }
+    ensures { (b m w g : List ℕ) → mask ≡ holders setup (lent b counters.now m w g) block
+        → result ≡ payer setup (lent b counters.now m w g) processor block }
 {
     let mut weakest = setup.processors;
     let mut others = without_bit(mask, processor as u8);
@@ -124,9 +124,9 @@ pub fn payer(setup: Setup, processor: u32, block: Block, mask: u8, counters: &[u
 pub fn owner(setup: Setup, block: Block, mask: u8, marks: &[u32]) -> u32
     requires fits { Fits setup }
     requires mask_bound { mask < 2 ^ setup.processors }
-    requires per_slot { PerSlot setup marks }
-    ensures { (b c w g : List ℕ) → mask ≡ holders setup (before (unlent b) (unlent c) marks (unlent w) (unlent g)) block
-        → result ≡ owner setup (before (unlent b) (unlent c) marks (unlent w) (unlent g)) block }
+    requires per_slot { PerSlot setup marks.now }
+    ensures { (b c w g : List ℕ) → mask ≡ holders setup (lent b c marks.now w g) block
+        → result ≡ owner setup (lent b c marks.now w g) block }
 {
     let mut holders = mask;
     while holders != 0 {
@@ -151,10 +151,10 @@ pub fn update_copies(
     requires fits { Fits setup }
     requires offset_lt_words { offset < setup.words }
     requires mask_bound { mask < 2 ^ setup.processors }
-    requires per_slot_word { PerSlotWord setup words }
-    ensures { (b c m g : List ℕ) → mask ≡ holders setup (before (unlent b) (unlent c) (unlent m) words (unlent g)) block
+    requires per_slot_word { PerSlotWord setup words.old }
+    ensures { (b c m g : List ℕ) → mask ≡ holders setup (lent b c m words.old g) block
         → words.new
-        ≡ updated_copies setup (before (unlent b) (unlent c) (unlent m) words (unlent g)) block offset value setup.processors }
+        ≡ updated_copies setup (lent b c m words.old g) block offset value setup.processors }
 {
     let mut copies = mask;
     while copies != 0 {

@@ -5,7 +5,7 @@ ghost use Rattle.std.specs.Prelude.{◌≡◌, List, ℕ, ◌^◌, ◌≤◌, �
 ghost use Rattle.protocol_types.specs.Lists.{at};
 ghost use Rattle.protocol_types.specs.Board.{Fits, slots};
 ghost use Rattle.protocol.specs.Tables.{Sized};
-ghost use Rattle.protocol.specs.Lent.{lent, before, after, unlent, PerSlot, PerSlotWord, PerVariable};
+ghost use Rattle.protocol.specs.Lent.{lent, PerSlot, PerSlotWord, PerVariable};
 ghost use Rattle.protocol.specs.Masks.{holders};
 ghost use Rattle.protocol.specs.Rules.{released, filled, fetched, charged};
 
@@ -27,9 +27,9 @@ fn release(
     requires fits { Fits setup }
     requires mask_bound { mask < 2 ^ setup.processors }
     requires by_index { (k : ℕ) → at blocks.now k < setup.blocks }
-    requires per_slot { PerSlot setup blocks × PerSlot setup marks × PerSlotWord setup words × PerVariable setup memory }
-    ensures { (c : List ℕ) → mask ≡ holders setup (before blocks (unlent c) marks words memory) block
-        → after blocks (unlent c) marks words memory ≡ released setup (before blocks (unlent c) marks words memory) block }
+    requires per_slot { PerSlot setup blocks.now × PerSlot setup marks.old × PerSlotWord setup words.now × PerVariable setup memory.old }
+    ensures { (c : List ℕ) → mask ≡ holders setup (lent blocks.now c marks.old words.now memory.old) block
+        → lent blocks.now c marks.new words.now memory.new ≡ released setup (lent blocks.now c marks.old words.now memory.old) block }
 {
     let j = owner(setup, block, mask, marks);
     if setup.processors <= j {
@@ -51,8 +51,8 @@ fn fill(
 )
     requires k_bound { k < slots setup }
     requires block_lt_blocks { block.0 < setup.blocks }
-    requires sized { Sized setup (lent blocks counters marks words memory) }
-    ensures { after blocks counters marks words memory ≡ filled setup (before blocks counters marks words memory) k block }
+    requires sized { Sized setup (lent blocks.old counters.old marks.old words.old memory.now) }
+    ensures { lent blocks.new counters.new marks.new words.new memory.now ≡ filled setup (lent blocks.old counters.old marks.old words.old memory.now) k block }
 {
     blocks[k] = block.0;
     counters[k] = setup.fetch_price();
@@ -75,10 +75,10 @@ pub fn fetch(
     requires fits { Fits setup }
     requires k_bound { k < slots setup }
     requires block_lt_blocks { block.0 < setup.blocks }
-    requires mask_value { mask ≡ holders setup (lent blocks counters marks words memory) block }
+    requires mask_value { mask ≡ holders setup (lent blocks.old counters.old marks.old words.old memory.old) block }
     requires by_index { (k : ℕ) → at blocks.old k < setup.blocks }
-    requires sized { Sized setup (lent blocks counters marks words memory) }
-    ensures { after blocks counters marks words memory ≡ fetched setup (before blocks counters marks words memory) k block }
+    requires sized { Sized setup (lent blocks.old counters.old marks.old words.old memory.old) }
+    ensures { lent blocks.new counters.new marks.new words.new memory.new ≡ fetched setup (lent blocks.old counters.old marks.old words.old memory.old) k block }
 {
     release(setup, block, mask, blocks, marks, words, memory);
     fill(setup, k, block, blocks, counters, marks, words, memory);
@@ -95,9 +95,9 @@ pub fn charge(
 ) -> bool
     requires k_bound { k < slots setup }
     requires bound { 1 ≤ at counters.old k }
-    requires per_slot { PerSlot setup blocks × PerSlot setup counters × PerSlot setup marks × PerSlotWord setup words }
+    requires per_slot { PerSlot setup blocks.old × PerSlot setup counters.old × PerSlot setup marks.old × PerSlotWord setup words.old }
     ensures value { result ≡ eqb (at counters.old k) 1 }
-    ensures by_index { (g : List ℕ) → after blocks counters marks words (unlent g) ≡ charged setup (before blocks counters marks words (unlent g)) k }
+    ensures by_index { (g : List ℕ) → lent blocks.new counters.new marks.new words.new g ≡ charged setup (lent blocks.old counters.old marks.old words.old g) k }
 {
     if counters[k] == 1 {
         empty_line(setup, k, blocks, counters, marks, words);

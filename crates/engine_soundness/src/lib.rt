@@ -5,7 +5,7 @@ ghost use Rattle.std.specs.Prelude.{◌≡◌, cond, List, ℕ, ◌+◌, ◌^◌
 ghost use Rattle.protocol_types.specs.Lists.{at};
 ghost use Rattle.protocol_types.specs.Board.{Fits, slots, line_slot};
 ghost use Rattle.protocol.specs.Tables.{Sized, holds};
-ghost use Rattle.protocol.specs.Lent.{lent, before, masked_before, unlent, PerSlot, PerSlotWord};
+ghost use Rattle.protocol.specs.Lent.{lent, lent_masked, PerSlot, PerSlotWord};
 ghost use Rattle.protocol.specs.Soundness.{empty_line, copy_line, sound_line, sound};
 ghost use Rattle.protocol.specs.Masks.{holders, true_masks, sound_masked};
 
@@ -15,8 +15,8 @@ use protocol_types::{Block, Setup};
 fn empty_line_sound(setup: Setup, k: usize, blocks: &[u32], marks: &[u32], words: &[u32]) -> bool
     requires fits { Fits setup }
     requires k_bound { k < slots setup }
-    requires per_slot { PerSlot setup blocks × PerSlot setup marks × PerSlotWord setup words }
-    ensures { (c g : List ℕ) → result ≡ empty_line setup (before blocks (unlent c) marks words (unlent g)) k }
+    requires per_slot { PerSlot setup blocks.now × PerSlot setup marks.now × PerSlotWord setup words.now }
+    ensures { (c g : List ℕ) → result ≡ empty_line setup (lent blocks.now c marks.now words.now g) k }
 {
     if blocks[k] != 0 {
         return false;
@@ -40,9 +40,9 @@ fn copy_sound(
 ) -> bool
     requires fits { Fits setup }
     requires k_bound { k < slots setup }
-    requires sized { Sized setup (lent blocks counters marks words memory) }
+    requires sized { Sized setup (lent blocks.now counters.now marks.now words.now memory.now) }
     requires k_bound_2 { at blocks.now k < setup.blocks }
-    ensures { result ≡ copy_line setup (before blocks counters marks words memory) i k }
+    ensures { result ≡ copy_line setup (lent blocks.now counters.now marks.now words.now memory.now) i k }
 {
     let block = blocks[k];
     if marks[k] == 0 {
@@ -70,8 +70,8 @@ fn line_sound(
 ) -> bool
     requires fits { Fits setup }
     requires i_lt_processors { (i < setup.processors) × (l < setup.lines) }
-    requires sized { Sized setup (lent blocks counters marks words memory) }
-    ensures { result ≡ sound_line setup (before blocks counters marks words memory) i l (line_slot setup i l) }
+    requires sized { Sized setup (lent blocks.now counters.now marks.now words.now memory.now) }
+    ensures { result ≡ sound_line setup (lent blocks.now counters.now marks.now words.now memory.now) i l (line_slot setup i l) }
 {
     let k = setup.line_slot(i, l);
     if counters[k] == 0 {
@@ -100,8 +100,8 @@ fn lines_sound(
     memory: &[u32],
 ) -> bool
     requires fits { Fits setup }
-    requires sized { Sized setup (lent blocks counters marks words memory) }
-    ensures { result ≡ sound setup (before blocks counters marks words memory) }
+    requires sized { Sized setup (lent blocks.now counters.now marks.now words.now memory.now) }
+    ensures { result ≡ sound setup (lent blocks.now counters.now marks.now words.now memory.now) }
 {
     let n = setup.processors;
     let m = setup.lines;
@@ -124,8 +124,8 @@ fn add_holder(setup: Setup, block: Block, mask: u8, i: u8, blocks: &[u32], count
     requires fits { Fits setup }
     requires i_lt_processors { i < setup.processors }
     requires i_bound { mask + 2 ^ i < 256 }
-    requires per_slot { PerSlot setup blocks × PerSlot setup counters }
-    ensures { (m w g : List ℕ) → result ≡ mask + cond (holds setup (before blocks counters (unlent m) (unlent w) (unlent g)) i block) (2 ^ i) 0 }
+    requires per_slot { PerSlot setup blocks.now × PerSlot setup counters.now }
+    ensures { (m w g : List ℕ) → result ≡ mask + cond (holds setup (lent blocks.now counters.now m w g) i block) (2 ^ i) 0 }
 {
     if !engine_holders::holds(setup, i as u32, block, blocks, counters) {
         return mask;
@@ -136,8 +136,8 @@ fn add_holder(setup: Setup, block: Block, mask: u8, i: u8, blocks: &[u32], count
 // The true mask of a block.
 fn block_mask(setup: Setup, block: Block, blocks: &[u32], counters: &[u32]) -> u8
     requires fits { Fits setup }
-    requires per_slot { PerSlot setup blocks × PerSlot setup counters }
-    ensures { (m w g : List ℕ) → result ≡ holders setup (before blocks counters (unlent m) (unlent w) (unlent g)) block }
+    requires per_slot { PerSlot setup blocks.now × PerSlot setup counters.now }
+    ensures { (m w g : List ℕ) → result ≡ holders setup (lent blocks.now counters.now m w g) block }
 {
     let n = setup.processors as u8;
     let mut mask: u8 = 0;
@@ -150,8 +150,8 @@ fn block_mask(setup: Setup, block: Block, blocks: &[u32], counters: &[u32]) -> u
 // Whether every mask is the true one of its block.
 fn masks_true(setup: Setup, blocks: &[u32], counters: &[u32], masks: &[u8]) -> bool
     requires fits { Fits setup }
-    requires per_slot { PerSlot setup blocks × PerSlot setup counters × (length masks.now ≡ setup.blocks) }
-    ensures { (m w g : List ℕ) → result ≡ true_masks setup (masked_before blocks counters (unlent m) (unlent w) (unlent g) masks) }
+    requires per_slot { PerSlot setup blocks.now × PerSlot setup counters.now × (length masks.now ≡ setup.blocks) }
+    ensures { (m w g : List ℕ) → result ≡ true_masks setup (lent_masked blocks.now counters.now m w g masks.now) }
 {
     let n = setup.blocks;
     let mut b = 0;
@@ -175,9 +175,9 @@ pub fn is_sound(
     masks: &[u8],
 ) -> bool
     requires fits { Fits setup }
-    requires sized { Sized setup (lent blocks counters marks words memory) }
+    requires sized { Sized setup (lent blocks.now counters.now marks.now words.now memory.now) }
     requires masks_len { length masks.now ≡ setup.blocks }
-    ensures { result ≡ sound_masked setup (masked_before blocks counters marks words memory masks) }
+    ensures { result ≡ sound_masked setup (lent_masked blocks.now counters.now marks.now words.now memory.now masks.now) }
 {
     if !lines_sound(setup, blocks, counters, marks, words, memory) {
         return false;

@@ -3,7 +3,7 @@
 
 ghost use Rattle.std.specs.Prelude.{◌≡◌};
 ghost use Rattle.protocol_types.specs.Board.{Fits};
-ghost use Rattle.protocol.specs.Lent.{masked_before, masked_after};
+ghost use Rattle.protocol.specs.Lent.{lent_masked};
 ghost use Rattle.protocol.specs.Runs.{start_refusal, started, looked};
 ghost use Rattle.engine_tables.specs.Entries.{lengths_fit, seen};
 
@@ -50,8 +50,8 @@ pub fn start(
     memory: &mut [u32],
     masks: &mut [u8],
 ) -> u32
-    ensures value { result ≡ start_refusal setup (masked_before blocks counters marks words memory masks) }
-    ensures masks_value { masked_after blocks counters marks words memory masks ≡ started setup (masked_before blocks counters marks words memory masks) }
+    ensures value { result ≡ start_refusal setup (lent_masked blocks.old counters.old marks.old words.old memory.old masks.old) }
+    ensures masks_value { lent_masked blocks.new counters.new marks.new words.new memory.new masks.new ≡ started setup (lent_masked blocks.old counters.old marks.old words.old memory.old masks.old) }
 {
     let refusal = setup.refusal();
     if refusal != protocol_types::NO_REFUSAL {

@@ -5,7 +5,7 @@ ghost use Rattle.std.specs.Prelude.{◌≡◌, true, List, ℕ, ◌^◌, ◌≤�
 ghost use Rattle.protocol_types.specs.Lists.{at};
 ghost use Rattle.protocol_types.specs.Board.{Fits, slots};
 ghost use Rattle.protocol.specs.Tables.{Sized, counter, holds};
-ghost use Rattle.protocol.specs.Lent.{lent, before, after, unlent, PerSlot, PerSlotWord, PerVariable, TrueMasks};
+ghost use Rattle.protocol.specs.Lent.{lent, PerSlot, PerSlotWord, PerVariable, TrueMasks};
 ghost use Rattle.protocol.specs.Masks.{holders, masks_of};
 ghost use Rattle.protocol.specs.Rules.{written_alone, broadcast, charged, written, update_cycles};
 
@@ -28,9 +28,9 @@ fn write_alone(
     requires fits { Fits setup }
     requires k_bound { k < slots setup }
     requires offset_lt_words { offset < setup.words }
-    requires per_slot { PerSlot setup counters × PerSlot setup marks × PerSlotWord setup words }
-    ensures { (b g : List ℕ) → after (unlent b) counters marks words (unlent g)
-        ≡ written_alone setup (before (unlent b) counters marks words (unlent g)) k offset value }
+    requires per_slot { PerSlot setup counters.old × PerSlot setup marks.old × PerSlotWord setup words.old }
+    ensures { (b g : List ℕ) → lent b counters.new marks.new words.new g
+        ≡ written_alone setup (lent b counters.old marks.old words.old g) k offset value }
 {
     let full = setup.fetch_price();
     counters[k] = full;
@@ -55,10 +55,10 @@ fn broadcast(
     requires block_lt_blocks { block.0 < setup.blocks }
     requires offset_lt_words { offset < setup.words }
     requires mask_bound { mask < 2 ^ setup.processors }
-    requires per_slot { PerSlot setup counters × PerSlotWord setup words × PerVariable setup memory }
-    ensures { (b m : List ℕ) → mask ≡ holders setup (before (unlent b) counters (unlent m) words memory) block
-        → after (unlent b) counters (unlent m) words memory
-        ≡ broadcast setup (before (unlent b) counters (unlent m) words memory) writer block offset value }
+    requires per_slot { PerSlot setup counters.old × PerSlotWord setup words.old × PerVariable setup memory.old }
+    ensures { (b m : List ℕ) → mask ≡ holders setup (lent b counters.old m words.old memory.old) block
+        → lent b counters.new m words.new memory.new
+        ≡ broadcast setup (lent b counters.old m words.old memory.old) writer block offset value }
 {
     update_copies(setup, block, offset, value, mask, words);
     set_word(setup, block.0 as usize, offset, value, memory);
@@ -86,11 +86,11 @@ fn write_shared(
     requires block_lt_blocks { block.0 < setup.blocks }
     requires offset_lt_words { offset < setup.words }
     requires bound { 1 ≤ at counters.old payer }
-    requires mask_value { mask ≡ holders setup (lent blocks counters marks words memory) block }
-    requires sized { Sized setup (lent blocks counters marks words memory) }
-    ensures value { result ≡ eqb (counter (broadcast setup (before blocks counters marks words memory) writer block offset value) payer) 1 }
-    ensures memory_value { after blocks counters marks words memory
-        ≡ charged setup (broadcast setup (before blocks counters marks words memory) writer block offset value) payer }
+    requires mask_value { mask ≡ holders setup (lent blocks.old counters.old marks.old words.old memory.old) block }
+    requires sized { Sized setup (lent blocks.old counters.old marks.old words.old memory.old) }
+    ensures value { result ≡ eqb (counter (broadcast setup (lent blocks.old counters.old marks.old words.old memory.old) writer block offset value) payer) 1 }
+    ensures memory_value { lent blocks.new counters.new marks.new words.new memory.new
+        ≡ charged setup (broadcast setup (lent blocks.old counters.old marks.old words.old memory.old) writer block offset value) payer }
 {
     broadcast(
         setup, writer, block, offset, value, mask, counters, words, memory,
@@ -116,12 +116,12 @@ pub fn write(
     requires processor_lt_processors { processor < setup.processors }
     requires block_lt_blocks { block.0 < setup.blocks }
     requires offset_lt_words { offset < setup.words }
-    requires block_value { holds setup (lent blocks counters marks words memory) processor block ≡ true }
-    requires sized { Sized setup (lent blocks counters marks words memory) }
-    requires true_masks { TrueMasks setup (lent blocks counters marks words memory) masks }
-    ensures value { result ≡ update_cycles setup (before blocks counters marks words memory) processor block }
-    ensures memory_value { after blocks counters marks words memory ≡ written setup (before blocks counters marks words memory) processor block offset value }
-    ensures masks_after { masks.new ≡ masks_of setup (after blocks counters marks words memory) }
+    requires block_value { holds setup (lent blocks.old counters.old marks.old words.old memory.old) processor block ≡ true }
+    requires sized { Sized setup (lent blocks.old counters.old marks.old words.old memory.old) }
+    requires true_masks { TrueMasks setup (lent blocks.old counters.old marks.old words.old memory.old) masks.old }
+    ensures value { result ≡ update_cycles setup (lent blocks.old counters.old marks.old words.old memory.old) processor block }
+    ensures memory_value { lent blocks.new counters.new marks.new words.new memory.new ≡ written setup (lent blocks.old counters.old marks.old words.old memory.old) processor block offset value }
+    ensures masks_after { masks.new ≡ masks_of setup (lent blocks.new counters.new marks.new words.new memory.new) }
 {
     let k = setup.slot(processor, block);
     let b = block.0 as usize;

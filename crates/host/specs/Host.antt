@@ -1,7 +1,5 @@
 -- The version of the host entries, and the records of the specification from a host's plain numbers.
 use Rattle.std.specs.Prelude.{ℕ}
-use Rattle.std.specs.Borrow.{Bor}
-use denote.Triple.Both.{Both}
 use Rattle.protocol.specs.Tables.{Tables}
 use Rattle.protocol_types.specs.declared.Setup.{Setup}
 use Rattle.protocol_types.specs.declared.Block.{Block}
@@ -11,21 +9,11 @@ use Rattle.trace_lines.specs.Trace.{Ended}
 
 -- it counts the changes of the exported functions' signatures and meanings, and the functions that are added, from 1 on
 abbrev pub host_version : ℕ
-host_version = 7
+host_version = 6
 
 -- n processors, l lines in each cache, p words in a block, m blocks, fetch price f, write-back price g
 abbrev pub setup_of : ℕ → ℕ → ℕ → ℕ → ℕ → ℕ → Setup
 setup_of n l p m f g = record { processors = n; lines = l; words = p; blocks = m; fetch_price = f; write_back_price = g }
-
--- the account of four lent numbers, as they came in and as they are left
-abbrev pub LentNumber : Type 0
-LentNumber = Both (Bor ℕ) (Bor ℕ)
-
-abbrev pub account_before : LentNumber → LentNumber → LentNumber → LentNumber → Account
-account_before n f w u = account_of n.entry.now f.entry.now w.entry.now u.entry.now
-
-abbrev pub account_after : LentNumber → LentNumber → LentNumber → LentNumber → Account
-account_after n f w u = account_of n.exit.now f.exit.now w.exit.now u.exit.now
 
 -- the block of this number: protocol's blockOf is that of a variable
 abbrev pub block_numbered : ℕ → Block

@@ -3,24 +3,24 @@
 
 ghost use Rattle.std.specs.Prelude.{◌≡◌, ◌≢◌};
 ghost use Rattle.protocol_types.specs.Refusals.{no_refusal};
-ghost use Rattle.protocol.specs.Lent.{before, after, masked_before, masked_after};
+ghost use Rattle.protocol.specs.Lent.{lent, lent_masked};
 ghost use Rattle.protocol.specs.Engines.{answered};
 ghost use Rattle.protocol.specs.Runs.{start_refusal, started};
 ghost use Rattle.protocol.specs.Pricer.{numbered, number_of, place_of, cost_of};
-ghost use Rattle.rival_copies.specs.Copies.{rival_before, rival_after};
+ghost use Rattle.rival_copies.specs.Copies.{rival_lent};
 ghost use Rattle.run_progress.specs.Progress.{outcome};
 ghost use Rattle.trace_lines.specs.Trace.{ended_on};
 ghost use Rattle.host_looks.specs.Looks.{look_length, look_offset};
 ghost use Rattle.host_generator.specs.Numbers.{generate_numbers_refusal, generated_numbers};
 ghost use Rattle.host_best.specs.Numbers.{best_numbers_refusal, best_of_numbers, best_numbers, numbered as bestNumbered, in_numbers as bestInNumbers};
-ghost use Rattle.best_schedule.specs.Lent.{search_before, search_after};
-ghost use Rattle.host_numbers.specs.Numbers.{run_numbers, price_in_numbers, price_tables_of_numbers};
-ghost use Rattle.host.specs.Host.{host_version, setup_of, account_before, account_after, block_numbered, report_of};
+ghost use Rattle.best_schedule.specs.Lent.{search_lent};
+ghost use Rattle.host_numbers.specs.Numbers.{account_of, run_numbers, price_in_numbers, price_tables_of_numbers};
+ghost use Rattle.host.specs.Host.{host_version, setup_of, block_numbered, report_of};
 
 use protocol_types::{Account, Block, PriceAnswer, Setup};
 
 // It counts the changes of these functions' signatures and meanings, and the functions that are added.
-const VERSION: u32 = 7;
+const VERSION: u32 = 6;
 
 // The version of these functions, by which a host can tell whether it was built for them.
 #[unsafe(no_mangle)]
@@ -67,9 +67,9 @@ pub extern "C" fn cuzkelor_start(
     memory: &mut [u32],
     masks: &mut [u8],
 ) -> u32
-    ensures value { result ≡ start_refusal (setup_of processors lines block_words block_count fetch_price write_back_price) (masked_before blocks counters marks words memory masks) }
-    ensures masks_value { masked_after blocks counters marks words memory masks
-        ≡ started (setup_of processors lines block_words block_count fetch_price write_back_price) (masked_before blocks counters marks words memory masks) }
+    ensures value { result ≡ start_refusal (setup_of processors lines block_words block_count fetch_price write_back_price) (lent_masked blocks.old counters.old marks.old words.old memory.old masks.old) }
+    ensures masks_value { lent_masked blocks.new counters.new marks.new words.new memory.new masks.new
+        ≡ started (setup_of processors lines block_words block_count fetch_price write_back_price) (lent_masked blocks.old counters.old marks.old words.old memory.old masks.old) }
 {
     let setup = setup_of(
         processors,
@@ -165,9 +165,9 @@ pub extern "C" fn cuzkelor_run(
     place: &mut usize,
 ) -> u32
     ensures { outcome (answered taken.new result place.new)
-        (masked_after blocks counters marks words memory masks) (account_after account_requests account_fetch account_write_back account_update) values.new
+        (lent_masked blocks.new counters.new marks.new words.new memory.new masks.new) (account_of account_requests.new account_fetch.new account_write_back.new account_update.new) values.new
         ≡ run_numbers (setup_of processors lines block_words block_count fetch_price write_back_price)
-        (masked_before blocks counters marks words memory masks) (account_before account_requests account_fetch account_write_back account_update)
+        (lent_masked blocks.old counters.old marks.old words.old memory.old masks.old) (account_of account_requests.old account_fetch.old account_write_back.old account_update.old)
         requests.now values.old }
 {
     let setup = setup_of(
@@ -244,9 +244,9 @@ pub extern "C" fn cuzkelor_price(
     cost: &mut u32,
 ) -> u32
     ensures cost_after { numbered result place.new cost.new
-        ≡ price_in_numbers (setup_of processors lines block_words block_count fetch_price write_back_price) (rival_before blocks held marks)
+        ≡ price_in_numbers (setup_of processors lines block_words block_count fetch_price write_back_price) (rival_lent blocks.old held.old marks.old)
         requests.now entries.now }
-    ensures marks_value { rival_after blocks held marks ≡ price_tables_of_numbers (setup_of processors lines block_words block_count fetch_price write_back_price) (rival_before blocks held marks)
+    ensures marks_value { rival_lent blocks.new held.new marks.new ≡ price_tables_of_numbers (setup_of processors lines block_words block_count fetch_price write_back_price) (rival_lent blocks.old held.old marks.old)
         requests.now entries.now }
 {
     let setup = setup_of(
@@ -287,12 +287,12 @@ pub extern "C" fn cuzkelor_best(
     excess: &mut u32,
 ) -> u32
     ensures excess_after { bestNumbered result place.new schedule_length.new cost.new steps_used.new least.new excess.new
-        ≡ bestInNumbers (best_of_numbers (setup_of processors lines block_words block_count fetch_price write_back_price) (search_before distances order predecessors lowest)
+        ≡ bestInNumbers (best_of_numbers (setup_of processors lines block_words block_count fetch_price write_back_price) (search_lent distances.old order.old predecessors.old lowest.old)
         requests.now schedule.old steps) }
-    ensures schedule_after { schedule.new ≡ best_numbers (setup_of processors lines block_words block_count fetch_price write_back_price) (search_before distances order predecessors lowest)
+    ensures schedule_after { schedule.new ≡ best_numbers (setup_of processors lines block_words block_count fetch_price write_back_price) (search_lent distances.old order.old predecessors.old lowest.old)
         requests.now schedule.old steps }
-    ensures lowest_value { best_numbers_refusal (setup_of processors lines block_words block_count fetch_price write_back_price) (search_before distances order predecessors lowest)
-        requests.now schedule.old ≢ no_refusal → search_after distances order predecessors lowest ≡ search_before distances order predecessors lowest }
+    ensures lowest_value { best_numbers_refusal (setup_of processors lines block_words block_count fetch_price write_back_price) (search_lent distances.old order.old predecessors.old lowest.old)
+        requests.now schedule.old ≢ no_refusal → search_lent distances.new order.new predecessors.new lowest.new ≡ search_lent distances.old order.old predecessors.old lowest.old }
 {
     let setup = setup_of(
         processors,
@@ -363,8 +363,8 @@ pub extern "C" fn cuzkelor_count_trace(
     account_update: &mut u32,
     line: &mut u32,
 ) -> u32
-    ensures { report_of (account_after account_requests account_fetch account_write_back account_update) result line.new (after blocks counters marks words memory)
-        ≡ ended_on (before blocks counters marks words memory) bytes.now }
+    ensures { report_of (account_of account_requests.new account_fetch.new account_write_back.new account_update.new) result line.new (lent blocks.new counters.new marks.new words.new memory.new)
+        ≡ ended_on (lent blocks.old counters.old marks.old words.old memory.old) bytes.now }
 {
     let report = trace::count_trace(bytes, blocks, counters, marks, words, memory);
     *account_requests = report.account.requests;

@@ -6,7 +6,7 @@ ghost use Rattle.protocol_types.specs.Refusals.{no_refusal};
 ghost use Rattle.best_positions.specs.Best.{search_tables};
 ghost use Rattle.best_steps.specs.Steps.{best_stage};
 ghost use Rattle.host_best.specs.Numbers.{entries_lent, best_numbers_refusal, best_of_numbers, best_numbers, in_numbers};
-ghost use Rattle.best_schedule.specs.Lent.{search_before, search_after};
+ghost use Rattle.best_schedule.specs.Lent.{search_lent};
 ghost use Rattle.host_best.specs.Turns.{numbers_stage, numbers_turned, Ready};
 
 use best_steps::BestProgress;
@@ -46,8 +46,8 @@ fn turn<'a>(
     p: BestProgress,
 ) -> BestProgress
     requires { Ready setup requests.now (numbers_stage (best_stage p (search_tables distances.old order.old predecessors.old lowest.old)) schedule.old) }
-    ensures { numbers_stage (best_stage result (search_after distances order predecessors lowest)) schedule.new
-        ≡ numbers_turned setup requests.now (numbers_stage (best_stage p (search_before distances order predecessors lowest)) schedule.old) }
+    ensures { numbers_stage (best_stage result (search_lent distances.new order.new predecessors.new lowest.new)) schedule.new
+        ≡ numbers_turned setup requests.now (numbers_stage (best_stage p (search_lent distances.old order.old predecessors.old lowest.old)) schedule.old) }
 {
     if p.asking {
         let request = host_decoding::request_at(requests, p.at);
@@ -69,10 +69,10 @@ pub fn best<'a>(
     schedule: &'a mut [u32],
     steps: u32,
 ) -> BestAnswer
-    ensures { (result ≡ best_of_numbers setup (search_before distances order predecessors lowest) requests.now schedule.old steps)
-        × (schedule.new ≡ best_numbers setup (search_before distances order predecessors lowest) requests.now schedule.old steps)
-        × (best_numbers_refusal setup (search_before distances order predecessors lowest) requests.now schedule.old ≢ no_refusal
-        → search_after distances order predecessors lowest ≡ search_before distances order predecessors lowest) }
+    ensures { (result ≡ best_of_numbers setup (search_lent distances.old order.old predecessors.old lowest.old) requests.now schedule.old steps)
+        × (schedule.new ≡ best_numbers setup (search_lent distances.old order.old predecessors.old lowest.old) requests.now schedule.old steps)
+        × (best_numbers_refusal setup (search_lent distances.old order.old predecessors.old lowest.old) requests.now schedule.old ≢ no_refusal
+        → search_lent distances.new order.new predecessors.new lowest.new ≡ search_lent distances.old order.old predecessors.old lowest.old) }
 {
     let count = host_decoding::request_count(requests);
     let entries = entries_lent(requests, &*schedule);

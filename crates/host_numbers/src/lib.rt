@@ -2,12 +2,12 @@
 #![tactic(auto)]
 
 ghost use Rattle.std.specs.Prelude.{◌≡◌};
-ghost use Rattle.protocol.specs.Lent.{masked_before, masked_after};
+ghost use Rattle.protocol.specs.Lent.{lent_masked};
 ghost use Rattle.protocol.specs.Engines.{run as ran};
 ghost use Rattle.protocol.specs.Runs.{masked_engine};
 ghost use Rattle.protocol.specs.Pricer.{price as priced, price_tables, in_numbers};
 ghost use Rattle.protocol.specs.Accounts.{nothing};
-ghost use Rattle.rival_copies.specs.Copies.{rival_before, rival_after};
+ghost use Rattle.rival_copies.specs.Copies.{rival_lent};
 ghost use Rattle.run_progress.specs.Progress.{Room, outcome};
 ghost use Rattle.host_decoding.specs.Records.{requests_of, entries_of};
 ghost use Rattle.host_numbers.specs.Numbers.{account_of, run_numbers, price_of_numbers, price_in_numbers, price_tables_of_numbers};
@@ -46,8 +46,8 @@ fn run_requests(
     requests: &[u32],
     values: &mut [u32],
 ) -> Ran
-    ensures { outcome result.answer (masked_after blocks counters marks words memory masks) result.account values.new
-        ≡ ran (masked_engine setup) (masked_before blocks counters marks words memory masks) account (requests_of requests.now) values.old }
+    ensures { outcome result.answer (lent_masked blocks.new counters.new marks.new words.new memory.new masks.new) result.account values.new
+        ≡ ran (masked_engine setup) (lent_masked blocks.old counters.old marks.old words.old memory.old masks.old) account (requests_of requests.now) values.old }
 {
     let start = account_of(
         account.requests,
@@ -86,8 +86,8 @@ pub fn run(
     requests: &[u32],
     values: &mut [u32],
 ) -> Ran
-    ensures { outcome result.answer (masked_after blocks counters marks words memory masks) result.account values.new
-        ≡ run_numbers setup (masked_before blocks counters marks words memory masks) account requests.now values.old }
+    ensures { outcome result.answer (lent_masked blocks.new counters.new marks.new words.new memory.new masks.new) result.account values.new
+        ≡ run_numbers setup (lent_masked blocks.old counters.old marks.old words.old memory.old masks.old) account requests.now values.old }
 {
     if !host_decoding::is_whole(requests, host_decoding::REQUEST_WIDTH) {
         return Ran {
@@ -113,9 +113,9 @@ fn price_schedule(
     entries: &[u32],
     requests: &[u32],
 ) -> PriceAnswer
-    ensures { (result ≡ priced setup (rival_before blocks held marks) (requests_of requests.now) (entries_of entries.now))
-        × (rival_after blocks held marks
-        ≡ price_tables setup (rival_before blocks held marks) (requests_of requests.now) (entries_of entries.now)) }
+    ensures { (result ≡ priced setup (rival_lent blocks.old held.old marks.old) (requests_of requests.now) (entries_of entries.now))
+        × (rival_lent blocks.new held.new marks.new
+        ≡ price_tables setup (rival_lent blocks.old held.old marks.old) (requests_of requests.now) (entries_of entries.now)) }
 {
     let entry_count = host_decoding::entry_count(entries);
     let request_count = host_decoding::request_count(requests);
@@ -141,9 +141,9 @@ pub fn price(
     entries: &[u32],
     requests: &[u32],
 ) -> PriceAnswer
-    ensures { (result ≡ price_of_numbers setup (rival_before blocks held marks) requests.now entries.now)
-        × (in_numbers result ≡ price_in_numbers setup (rival_before blocks held marks) requests.now entries.now)
-        × (rival_after blocks held marks ≡ price_tables_of_numbers setup (rival_before blocks held marks) requests.now entries.now) }
+    ensures { (result ≡ price_of_numbers setup (rival_lent blocks.old held.old marks.old) requests.now entries.now)
+        × (in_numbers result ≡ price_in_numbers setup (rival_lent blocks.old held.old marks.old) requests.now entries.now)
+        × (rival_lent blocks.new held.new marks.new ≡ price_tables_of_numbers setup (rival_lent blocks.old held.old marks.old) requests.now entries.now) }
 {
     if !host_decoding::are_whole(requests, entries) {
         return PriceAnswer::Refused(host_decoding::partial_refusal(setup), 0);

@@ -6,7 +6,7 @@ ghost use Rattle.protocol_types.specs.Refusals.{no_refusal, unless, completion_n
 ghost use Rattle.protocol_types.specs.Board.{Fits, slots};
 ghost use Rattle.protocol.specs.Accounts.{cycles};
 ghost use Rattle.protocol.specs.Rival.{Rival, rival, RivalSized, keeps, shared, empty_cache, completion_cycles, cost, move_refusal, ready_refusal, completion_refusal, refusal};
-ghost use Rattle.rival_copies.specs.Copies.{rival_lent, rival_before, rival_marked};
+ghost use Rattle.rival_copies.specs.Copies.{rival_lent, rival_marked};
 
 use protocol_types::{Block, Entry, Operation, Request, Setup};
 use rival_copies::{keeps, keeps_at, shared};
@@ -37,7 +37,7 @@ fn write_cycles(
 ) -> u32
     requires fits { Fits setup }
     requires blocks_len { (length blocks.now ≡ slots setup) × (length held.now ≡ slots setup) }
-    ensures { (m : List ℕ) → result ≡ cond broadcast 1 (cond (shared setup (rival_marked blocks held m) processor block) 1 0) }
+    ensures { (m : List ℕ) → result ≡ cond broadcast 1 (cond (shared setup (rival_marked blocks.now held.now m) processor block) 1 0) }
 {
     if broadcast {
         return 1;
@@ -58,7 +58,7 @@ pub fn completion_cycles(
 ) -> u32
     requires fits { Fits setup }
     requires blocks_len { (length blocks.now ≡ slots setup) × (length held.now ≡ slots setup) }
-    ensures { (m : List ℕ) → result ≡ completion_cycles setup (rival_marked blocks held m) request broadcast }
+    ensures { (m : List ℕ) → result ≡ completion_cycles setup (rival_marked blocks.now held.now m) request broadcast }
 {
     let operation = request.operation;
     match operation {
@@ -113,7 +113,7 @@ fn write_back_refusal(
 ) -> u32
     requires fits { Fits setup }
     requires blocks_len { (length blocks.now ≡ slots setup) × (length held.now ≡ slots setup) }
-    ensures { (m : List ℕ) → result ≡ refusal setup (rival_marked blocks held m) [] (Entry.WriteBack processor block) }
+    ensures { (m : List ℕ) → result ≡ refusal setup (rival_marked blocks.now held.now m) [] (Entry.WriteBack processor block) }
 {
     let n = move_refusal(setup, processor, block);
     if n != protocol_types::NO_REFUSAL {
@@ -135,8 +135,8 @@ fn drop_refusal(
     marks: &[u32],
 ) -> u32
     requires fits { Fits setup }
-    requires rival_sized { RivalSized setup (rival_lent blocks held marks) }
-    ensures { result ≡ refusal setup (rival_before blocks held marks) [] (Entry.Drop processor block) }
+    requires rival_sized { RivalSized setup (rival_lent blocks.now held.now marks.now) }
+    ensures { result ≡ refusal setup (rival_lent blocks.now held.now marks.now) [] (Entry.Drop processor block) }
 {
     let n = move_refusal(setup, processor, block);
     if n != protocol_types::NO_REFUSAL {
@@ -155,8 +155,8 @@ fn drop_refusal(
 // The refusal of an entry where no request is left: 26 at a completion.
 pub fn refusal(setup: Setup, entry: Entry, blocks: &[u32], held: &[u32], marks: &[u32]) -> u32
     requires fits { Fits setup }
-    requires rival_sized { RivalSized setup (rival_lent blocks held marks) }
-    ensures { result ≡ refusal setup (rival_before blocks held marks) [] entry }
+    requires rival_sized { RivalSized setup (rival_lent blocks.now held.now marks.now) }
+    ensures { result ≡ refusal setup (rival_lent blocks.now held.now marks.now) [] entry }
 {
     match entry {
         Entry::Fetch(i, b) => fetch_refusal(setup, i, b, held),
@@ -172,7 +172,7 @@ fn held_refusal(setup: Setup, processor: u32, block: Block, blocks: &[u32], held
     requires fits { Fits setup }
     requires processor_lt_processors { processor < setup.processors }
     requires blocks_len { (length blocks.now ≡ slots setup) × (length held.now ≡ slots setup) }
-    ensures { (m : List ℕ) → result ≡ unless (keeps setup (rival_marked blocks held m) processor block) completion_not_held no_refusal }
+    ensures { (m : List ℕ) → result ≡ unless (keeps setup (rival_marked blocks.now held.now m) processor block) completion_not_held no_refusal }
 {
     if !keeps(setup, processor, block, blocks, held) {
         return protocol_types::COMPLETION_NOT_HELD;
@@ -225,7 +225,7 @@ fn ready_refusal(
     requires fits { Fits setup }
     requires processor_lt_processors { processor < setup.processors }
     requires blocks_len { (length blocks.now ≡ slots setup) × (length held.now ≡ slots setup) }
-    ensures { (m : List ℕ) → result ≡ ready_refusal setup (rival_marked blocks held m) processor operation broadcast }
+    ensures { (m : List ℕ) → result ≡ ready_refusal setup (rival_marked blocks.now held.now m) processor operation broadcast }
 {
     match operation {
         Operation::Read(v) => {
@@ -253,7 +253,7 @@ pub fn completion_refusal(
 ) -> u32
     requires fits { Fits setup }
     requires blocks_len { (length blocks.now ≡ slots setup) × (length held.now ≡ slots setup) }
-    ensures { (m : List ℕ) → result ≡ completion_refusal setup (rival_marked blocks held m) request broadcast }
+    ensures { (m : List ℕ) → result ≡ completion_refusal setup (rival_marked blocks.now held.now m) request broadcast }
 {
     if request.processor >= setup.processors {
         return protocol_types::NO_SUCH_PROCESSOR;

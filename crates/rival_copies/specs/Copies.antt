@@ -1,30 +1,21 @@
 -- A rival's copies in lent tables.
 use Rattle.std.specs.Prelude.{ℕ, Bool, true, false, not, ◌&&◌, cond, List, set, eqb}
-use Rattle.std.specs.Borrow.{Bor}
 use Rattle.protocol_types.specs.Board.{slot}
-use Rattle.protocol.specs.Lent.{Lent}
 use Rattle.protocol.specs.Rival.{Rival, rival, keeps, shared}
 use Rattle.protocol_types.specs.declared.Setup.{Setup}
 use Rattle.protocol_types.specs.declared.Block.{Block}
 use Rattle.protocol_types.specs.declared.Entry.{Entry}
 use Rattle.protocol_types.specs.declared.Entry.TheVariants.{Complete, CompleteByBroadcast}
 
--- ---- the rival behind three references
+-- ---- the rival of three lent buffers
 
--- as it comes in, where a contract requires
-abbrev pub rival_lent : Bor (List ℕ) → Bor (List ℕ) → Bor (List ℕ) → Rival
-rival_lent b h m = rival b.now h.now m.now
-
--- as it came in, and as it is left, where it ensures
-abbrev pub rival_before : Lent → Lent → Lent → Rival
-rival_before b h m = rival_lent b.entry h.entry m.entry
-
-abbrev pub rival_after : Lent → Lent → Lent → Rival
-rival_after b h m = rival_lent b.exit h.exit m.exit
+-- a contract names the moment: as they came in (`.old`, or `.now` of a buffer that is only read) and as they are left (`.new`)
+abbrev pub rival_lent : List ℕ → List ℕ → List ℕ → Rival
+rival_lent b h m = rival b h m
 
 -- the copies that came in, with marks m
-abbrev pub rival_marked : Lent → Lent → List ℕ → Rival
-rival_marked b h m = rival b.entry.now h.entry.now m
+abbrev pub rival_marked : List ℕ → List ℕ → List ℕ → Rival
+rival_marked b h m = rival b h m
 
 -- ---- steps of what an entry does
 

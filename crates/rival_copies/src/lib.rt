@@ -5,7 +5,7 @@ ghost use Rattle.std.specs.Prelude.{◌≡◌, List, [], ◌∷◌, ℕ, ◌<◌
 ghost use Rattle.protocol_types.specs.Refusals.{no_refusal};
 ghost use Rattle.protocol_types.specs.Board.{Fits, slots};
 ghost use Rattle.protocol.specs.Rival.{rival, RivalSized, keeps_at, keeps, shared, unmarked, rival_fetched, rival_written_back, rival_dropped, played, refusal};
-ghost use Rattle.rival_copies.specs.Copies.{rival_lent, rival_before, rival_after, rival_marked, another_keeps, copy_unmarked, lone_marked, completion};
+ghost use Rattle.rival_copies.specs.Copies.{rival_lent, rival_marked, another_keeps, copy_unmarked, lone_marked, completion};
 
 use protocol_types::{Block, Entry, Operation, Request, Setup};
 
@@ -14,7 +14,7 @@ use protocol_types::{Block, Entry, Operation, Request, Setup};
 // Whether slot k has a copy of a block.
 pub fn keeps_at(k: usize, block: Block, blocks: &[u32], held: &[u32]) -> bool
     requires { (k < length blocks.now) × (k < length held.now) }
-    ensures { (m : List ℕ) → result ≡ keeps_at (rival_marked blocks held m) k block }
+    ensures { (m : List ℕ) → result ≡ keeps_at (rival_marked blocks.now held.now m) k block }
 {
     if held[k] != 1 {
         return false;
@@ -27,7 +27,7 @@ pub fn keeps(setup: Setup, processor: u32, block: Block, blocks: &[u32], held: &
     requires fits { Fits setup }
     requires processor_lt_processors { processor < setup.processors }
     requires blocks_len { (length blocks.now ≡ slots setup) × (length held.now ≡ slots setup) }
-    ensures { (m : List ℕ) → result ≡ keeps setup (rival_marked blocks held m) processor block }
+    ensures { (m : List ℕ) → result ≡ keeps setup (rival_marked blocks.now held.now m) processor block }
 {
     keeps_at(setup.slot(processor, block), block, blocks, held)
 }
@@ -44,7 +44,7 @@ fn another_keeps(
     requires fits { Fits setup }
     requires j_lt_processors { j < setup.processors }
     requires blocks_len { (length blocks.now ≡ slots setup) × (length held.now ≡ slots setup) }
-    ensures { (m : List ℕ) → result ≡ another_keeps setup (rival_marked blocks held m) processor block j }
+    ensures { (m : List ℕ) → result ≡ another_keeps setup (rival_marked blocks.now held.now m) processor block j }
 {
     if j == processor {
         return false;
@@ -56,7 +56,7 @@ fn another_keeps(
 pub fn shared(setup: Setup, processor: u32, block: Block, blocks: &[u32], held: &[u32]) -> bool
     requires fits { Fits setup }
     requires blocks_len { (length blocks.now ≡ slots setup) × (length held.now ≡ slots setup) }
-    ensures { (m : List ℕ) → result ≡ shared setup (rival_marked blocks held m) processor block }
+    ensures { (m : List ℕ) → result ≡ shared setup (rival_marked blocks.now held.now m) processor block }
 {
     let n = setup.processors;
     let mut j = 0;
@@ -75,8 +75,8 @@ pub fn shared(setup: Setup, processor: u32, block: Block, blocks: &[u32], held: 
 fn unmark_copy(setup: Setup, block: Block, j: u32, blocks: &[u32], held: &[u32], marks: &mut [u32])
     requires fits { Fits setup }
     requires j_lt_processors { j < setup.processors }
-    requires rival_sized { RivalSized setup (rival_lent blocks held marks) }
-    ensures { (m : List ℕ) → marks.new ≡ copy_unmarked setup (rival_marked blocks held m) block j marks.old }
+    requires rival_sized { RivalSized setup (rival_lent blocks.now held.now marks.old) }
+    ensures { (m : List ℕ) → marks.new ≡ copy_unmarked setup (rival_marked blocks.now held.now m) block j marks.old }
 {
     let k = setup.slot(j, block);
     if !keeps_at(k, block, blocks, held) {
@@ -88,8 +88,8 @@ fn unmark_copy(setup: Setup, block: Block, j: u32, blocks: &[u32], held: &[u32],
 // A block's mark clears at every processor.
 fn unmark(setup: Setup, block: Block, blocks: &[u32], held: &[u32], marks: &mut [u32])
     requires fits { Fits setup }
-    requires rival_sized { RivalSized setup (rival_lent blocks held marks) }
-    ensures { marks.new ≡ unmarked setup (rival_before blocks held marks) block setup.processors }
+    requires rival_sized { RivalSized setup (rival_lent blocks.now held.now marks.old) }
+    ensures { marks.new ≡ unmarked setup (rival_lent blocks.now held.now marks.old) block setup.processors }
 {
     let n = setup.processors;
     for j in 0..n {
@@ -108,8 +108,8 @@ fn fetch<'a>(
 )
     requires fits { Fits setup }
     requires processor_lt_processors { processor < setup.processors }
-    requires rival_sized { RivalSized setup (rival_lent blocks held marks) }
-    ensures { rival_after blocks held marks ≡ rival_fetched setup (rival_before blocks held marks) processor block }
+    requires rival_sized { RivalSized setup (rival_lent blocks.old held.old marks.old) }
+    ensures { rival_lent blocks.new held.new marks.new ≡ rival_fetched setup (rival_lent blocks.old held.old marks.old) processor block }
 {
     unmark(setup, block, &*blocks, &*held, marks);
     let k = setup.slot(processor, block);
@@ -140,8 +140,8 @@ fn drop<'a>(
 )
     requires fits { Fits setup }
     requires processor_lt_processors { processor < setup.processors }
-    requires rival_sized { RivalSized setup (rival_lent blocks held marks) }
-    ensures { rival_after blocks held marks ≡ rival_dropped setup (rival_before blocks held marks) processor block }
+    requires rival_sized { RivalSized setup (rival_lent blocks.old held.old marks.old) }
+    ensures { rival_lent blocks.new held.new marks.new ≡ rival_dropped setup (rival_lent blocks.old held.old marks.old) processor block }
 {
     let k = setup.slot(processor, block);
     blocks[k] = 0;
@@ -158,9 +158,9 @@ pub fn play<'a>(
     marks: &'a mut [u32],
 )
     requires fits { Fits setup }
-    requires rival_sized { RivalSized setup (rival_lent blocks held marks) }
-    requires value { refusal setup (rival_lent blocks held marks) [] entry ≡ no_refusal }
-    ensures { rival_after blocks held marks ≡ played setup (rival_before blocks held marks) [] entry }
+    requires rival_sized { RivalSized setup (rival_lent blocks.old held.old marks.old) }
+    requires value { refusal setup (rival_lent blocks.old held.old marks.old) [] entry ≡ no_refusal }
+    ensures { rival_lent blocks.new held.new marks.new ≡ played setup (rival_lent blocks.old held.old marks.old) [] entry }
 {
     match entry {
         Entry::Fetch(i, b) => fetch(setup, i, b, blocks, held, marks),
@@ -182,8 +182,8 @@ fn mark_lone(
 )
     requires fits { Fits setup }
     requires processor_lt_processors { processor < setup.processors }
-    requires rival_sized { RivalSized setup (rival_lent blocks held marks) }
-    ensures { marks.new ≡ lone_marked setup (rival_before blocks held marks) processor block }
+    requires rival_sized { RivalSized setup (rival_lent blocks.now held.now marks.old) }
+    ensures { marks.new ≡ lone_marked setup (rival_lent blocks.now held.now marks.old) processor block }
 {
     if shared(setup, processor, block, blocks, held) {
         return;
@@ -203,8 +203,8 @@ pub fn play_completion(
 )
     requires fits { Fits setup }
     requires processor_lt_processors { request.processor < setup.processors }
-    requires rival_sized { RivalSized setup (rival_lent blocks held marks) }
-    ensures { rival_marked blocks held marks.new ≡ played setup (rival_before blocks held marks) (request ∷ []) (completion broadcast) }
+    requires rival_sized { RivalSized setup (rival_lent blocks.now held.now marks.old) }
+    ensures { rival_marked blocks.now held.now marks.new ≡ played setup (rival_lent blocks.now held.now marks.old) (request ∷ []) (completion broadcast) }
 {
     if broadcast {
         return;

@@ -3,7 +3,7 @@
 
 ghost use Rattle.std.specs.Prelude.{◌≡◌};
 ghost use Rattle.protocol.specs.Pricer.{price as priced, price_tables, in_numbers, price_numbers};
-ghost use Rattle.rival_copies.specs.Copies.{rival_before, rival_after};
+ghost use Rattle.rival_copies.specs.Copies.{rival_lent};
 
 use protocol_types::{Entry, PriceAnswer, Request, Setup};
 
@@ -16,9 +16,9 @@ pub fn price(
     entries: &[Entry],
     requests: &[Request],
 ) -> PriceAnswer
-    ensures { (result ≡ priced setup (rival_before blocks held marks) requests.now entries.now)
-        × (in_numbers result ≡ price_numbers setup (rival_before blocks held marks) requests.now entries.now)
-        × (rival_after blocks held marks ≡ price_tables setup (rival_before blocks held marks) requests.now entries.now) }
+    ensures { (result ≡ priced setup (rival_lent blocks.old held.old marks.old) requests.now entries.now)
+        × (in_numbers result ≡ price_numbers setup (rival_lent blocks.old held.old marks.old) requests.now entries.now)
+        × (rival_lent blocks.new held.new marks.new ≡ price_tables setup (rival_lent blocks.old held.old marks.old) requests.now entries.now) }
 {
     let mut p = rival_schedule::begin(setup, blocks, held, marks, entries.len(), requests.len());
     while p.going {

@@ -5,7 +5,7 @@ ghost use Rattle.std.specs.Prelude.{◌≡◌, ◌&&◌, leb};
 ghost use Rattle.protocol_types.specs.Board.{Fits};
 ghost use Rattle.protocol.specs.Rival.{rival_sized, RivalSized, no_copies};
 ghost use Rattle.protocol.specs.Pricer.{price_request_limit, price_entry_limit, price_refusal};
-ghost use Rattle.rival_copies.specs.Copies.{rival_lent, rival_before, rival_after};
+ghost use Rattle.rival_copies.specs.Copies.{rival_lent};
 ghost use Rattle.rival_pricing.specs.Stages.{completes, broadcasts, awaits, price_stage, pricing_at, advanced, waiting, pricing_stopped, rejected, reached, Paid};
 
 use parts::clear;
@@ -122,8 +122,8 @@ pub fn stop_pricing(p: Pricing, number: u32, place: usize) -> Pricing
 
 // Every table becomes 0.
 pub fn clear_all<'a>(setup: Setup, blocks: &'a mut [u32], held: &'a mut [u32], marks: &'a mut [u32])
-    requires { RivalSized setup (rival_lent blocks held marks) }
-    ensures { rival_after blocks held marks ≡ no_copies setup }
+    requires { RivalSized setup (rival_lent blocks.old held.old marks.old) }
+    ensures { rival_lent blocks.new held.new marks.new ≡ no_copies setup }
 {
     clear(blocks);
     clear(held);
@@ -140,8 +140,8 @@ pub fn reject<'a>(
     number: u32,
     place: usize,
 ) -> Pricing
-    requires { RivalSized setup (rival_lent blocks held marks) }
-    ensures { price_stage result (rival_after blocks held marks) ≡ rejected setup p number place }
+    requires { RivalSized setup (rival_lent blocks.old held.old marks.old) }
+    ensures { price_stage result (rival_lent blocks.new held.new marks.new) ≡ rejected setup p number place }
 {
     clear_all(setup, blocks, held, marks);
     stop_pricing(p, number, place)
@@ -155,8 +155,8 @@ pub fn reach<'a>(
     marks: &'a mut [u32],
     p: Pricing,
 ) -> Pricing
-    requires { RivalSized setup (rival_lent blocks held marks) }
-    ensures { price_stage result (rival_after blocks held marks) ≡ reached setup p (rival_before blocks held marks) }
+    requires { RivalSized setup (rival_lent blocks.old held.old marks.old) }
+    ensures { price_stage result (rival_lent blocks.new held.new marks.new) ≡ reached setup p (rival_lent blocks.old held.old marks.old) }
 {
     if p.at < p.entries {
         return p;
@@ -185,9 +185,9 @@ pub fn advance<'a>(
     next: usize,
     cycles: u32,
 ) -> Pricing
-    requires rival_sized { RivalSized setup (rival_lent blocks held marks) }
+    requires rival_sized { RivalSized setup (rival_lent blocks.old held.old marks.old) }
     requires paid { Paid p cycles }
-    ensures { price_stage result (rival_after blocks held marks) ≡ reached setup (advanced p next cycles) (rival_before blocks held marks) }
+    ensures { price_stage result (rival_lent blocks.new held.new marks.new) ≡ reached setup (advanced p next cycles) (rival_lent blocks.old held.old marks.old) }
 {
     let after = pricing_at(p.entries, p.requests, p.at + 1, next, p.cost + cycles);
     reach(setup, blocks, held, marks, after)
@@ -198,7 +198,7 @@ pub fn advance<'a>(
 // Whether condition 2 lets the tables through.
 fn is_sized(setup: Setup, blocks: &[u32], held: &[u32], marks: &[u32]) -> bool
     requires { Fits setup }
-    ensures { result ≡ rival_sized setup (rival_before blocks held marks) }
+    ensures { result ≡ rival_sized setup (rival_lent blocks.now held.now marks.now) }
 {
     let count = setup.slot_count();
     if blocks.len() != count {
@@ -229,7 +229,7 @@ pub fn price_refusal(
     entries: usize,
     requests: usize,
 ) -> u32
-    ensures { result ≡ price_refusal setup (rival_before blocks held marks) entries requests }
+    ensures { result ≡ price_refusal setup (rival_lent blocks.now held.now marks.now) entries requests }
 {
     let refusal = setup.refusal();
     if refusal != protocol_types::NO_REFUSAL {

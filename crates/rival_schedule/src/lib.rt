@@ -2,7 +2,7 @@
 #![tactic(auto)]
 
 ghost use Rattle.std.specs.Prelude.{◌≡◌};
-ghost use Rattle.rival_copies.specs.Copies.{rival_lent, rival_before, rival_after};
+ghost use Rattle.rival_copies.specs.Copies.{rival_lent};
 ghost use Rattle.rival_pricing.specs.Stages.{price_stage, price_begun, took, completed, PriceReady, Due};
 
 use protocol_types::{Entry, Request, Setup};
@@ -22,7 +22,7 @@ pub fn begin<'a>(
     entries: usize,
     requests: usize,
 ) -> Pricing
-    ensures { price_stage result (rival_after blocks held marks) ≡ price_begun setup (rival_before blocks held marks) entries requests }
+    ensures { price_stage result (rival_lent blocks.new held.new marks.new) ≡ price_begun setup (rival_lent blocks.old held.old marks.old) entries requests }
 {
     let p = pricing_at(entries, requests, 0, 0, 0);
     let n = price_refusal(setup, &*blocks, &*held, &*marks, entries, requests);
@@ -42,8 +42,8 @@ pub fn take<'a>(
     p: Pricing,
     entry: Entry,
 ) -> Pricing
-    requires { PriceReady setup (price_stage p (rival_lent blocks held marks)) }
-    ensures { price_stage result (rival_after blocks held marks) ≡ took setup (price_stage p (rival_before blocks held marks)) entry }
+    requires { PriceReady setup (price_stage p (rival_lent blocks.old held.old marks.old)) }
+    ensures { price_stage result (rival_lent blocks.new held.new marks.new) ≡ took setup (price_stage p (rival_lent blocks.old held.old marks.old)) entry }
 {
     if awaits(p, entry) {
         return waiting(p, broadcasts(entry));
@@ -65,8 +65,8 @@ pub fn complete<'a>(
     p: Pricing,
     request: Request,
 ) -> Pricing
-    requires { Due setup (price_stage p (rival_lent blocks held marks)) }
-    ensures { price_stage result (rival_after blocks held marks) ≡ completed setup (price_stage p (rival_before blocks held marks)) request }
+    requires { Due setup (price_stage p (rival_lent blocks.old held.old marks.old)) }
+    ensures { price_stage result (rival_lent blocks.new held.new marks.new) ≡ completed setup (price_stage p (rival_lent blocks.old held.old marks.old)) request }
 {
     let n = completion_refusal(setup, request, p.by_broadcast, &*blocks, &*held);
     if n != protocol_types::NO_REFUSAL {

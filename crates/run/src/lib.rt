@@ -2,7 +2,7 @@
 #![tactic(auto)]
 
 ghost use Rattle.std.specs.Prelude.{◌≡◌};
-ghost use Rattle.protocol.specs.Lent.{masked_before, masked_after};
+ghost use Rattle.protocol.specs.Lent.{lent_masked};
 ghost use Rattle.protocol.specs.Engines.{run as ran};
 ghost use Rattle.protocol.specs.Runs.{masked_engine};
 ghost use Rattle.run_progress.specs.Progress.{outcome};
@@ -22,8 +22,8 @@ pub fn run(
     requests: &[Request],
     values: &mut [u32],
 ) -> RunAnswer
-    ensures { outcome result (masked_after blocks counters marks words memory masks) account.new values.new
-        ≡ ran (masked_engine setup) (masked_before blocks counters marks words memory masks) account.old requests.now values.old }
+    ensures { outcome result (lent_masked blocks.new counters.new marks.new words.new memory.new masks.new) account.new values.new
+        ≡ ran (masked_engine setup) (lent_masked blocks.old counters.old marks.old words.old memory.old masks.old) account.old requests.now values.old }
 {
     let mut p = run_steps::begin(
         setup,

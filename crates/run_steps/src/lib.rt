@@ -2,7 +2,7 @@
 #![tactic(auto)]
 
 ghost use Rattle.std.specs.Prelude.{◌≡◌};
-ghost use Rattle.protocol.specs.Lent.{lent_masked, masked_before, masked_after};
+ghost use Rattle.protocol.specs.Lent.{lent_masked};
 ghost use Rattle.protocol.specs.Runs.{masked_refusal, masked_engine};
 ghost use Rattle.engine.specs.Usable.{UsableMasked};
 ghost use Rattle.run_progress.specs.Progress.{begun, run_stage, Ready, turned};
@@ -23,7 +23,7 @@ fn run_refusal<'a>(
     account: Account,
     count: usize,
 ) -> u32
-    ensures { result ≡ masked_refusal setup (masked_before blocks counters marks words memory masks) account count values.now }
+    ensures { result ≡ masked_refusal setup (lent_masked blocks.now counters.now marks.now words.now memory.now masks.now) account count values.now }
 {
     let refusal = setup.refusal();
     if refusal != protocol_types::NO_REFUSAL {
@@ -65,7 +65,7 @@ pub fn begin<'a>(
     account: Account,
     count: usize,
 ) -> Progress
-    ensures { result ≡ begun (masked_refusal setup (masked_before blocks counters marks words memory masks) account count values.now) account count }
+    ensures { result ≡ begun (masked_refusal setup (lent_masked blocks.now counters.now marks.now words.now memory.now masks.now) account count values.now) account count }
 {
     let refusal = run_refusal(
         setup, blocks, counters, marks, words, memory, masks, values, account, count,
@@ -86,9 +86,9 @@ pub fn turn<'a>(
     p: Progress,
     request: Request,
 ) -> Progress
-    requires { Ready setup (UsableMasked setup) (run_stage p (lent_masked blocks counters marks words memory masks) values.old) }
-    ensures { run_stage result (masked_after blocks counters marks words memory masks) values.new
-        ≡ turned (masked_engine setup) (run_stage p (masked_before blocks counters marks words memory masks) values.old) request }
+    requires { Ready setup (UsableMasked setup) (run_stage p (lent_masked blocks.old counters.old marks.old words.old memory.old masks.old) values.old) }
+    ensures { run_stage result (lent_masked blocks.new counters.new marks.new words.new memory.new masks.new) values.new
+        ≡ turned (masked_engine setup) (run_stage p (lent_masked blocks.old counters.old marks.old words.old memory.old masks.old) values.old) request }
 {
     let account = p.account;
     let taken = p.answer.taken;

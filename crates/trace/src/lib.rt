@@ -3,7 +3,7 @@
 
 ghost use Rattle.std.specs.Prelude.{◌≡◌, ◌≤◌, length, drop};
 ghost use Rattle.protocol.specs.Tables.{fresh};
-ghost use Rattle.protocol.specs.Lent.{lent, before, after, TrueMasks};
+ghost use Rattle.protocol.specs.Lent.{lent, TrueMasks};
 ghost use Rattle.protocol.specs.Masks.{masks_of};
 ghost use Rattle.trace_lines.specs.Trace.{trace_setup, ended, ended_on};
 ghost use Rattle.trace_count.specs.Counting.{count_stage, Countable, AtStart};
@@ -30,11 +30,11 @@ fn feed_lines(
 ) -> Count
     requires from_in_bounds { from ≤ length bytes.now }
     requires at_start { AtStart count }
-    requires countable { Countable (count_stage count (lent blocks counters marks words memory)) }
-    requires true_masks { TrueMasks trace_setup (lent blocks counters marks words memory) masks }
-    ensures memory_value { count_stage result (after blocks counters marks words memory)
-        ≡ fed (count_stage count (before blocks counters marks words memory)) (drop from bytes.now) }
-    ensures masks_after { masks.new ≡ masks_of trace_setup (after blocks counters marks words memory) }
+    requires countable { Countable (count_stage count (lent blocks.old counters.old marks.old words.old memory.old)) }
+    requires true_masks { TrueMasks trace_setup (lent blocks.old counters.old marks.old words.old memory.old) masks.old }
+    ensures memory_value { count_stage result (lent blocks.new counters.new marks.new words.new memory.new)
+        ≡ fed (count_stage count (lent blocks.old counters.old marks.old words.old memory.old)) (drop from bytes.now) }
+    ensures masks_after { masks.new ≡ masks_of trace_setup (lent blocks.new counters.new marks.new words.new memory.new) }
 {
     let mut so_far = count;
     let mut i = from;
@@ -68,11 +68,11 @@ pub fn feed(
     memory: &mut [u32],
     masks: &mut [u8],
 ) -> Count
-    requires countable { Countable (count_stage count (lent blocks counters marks words memory)) }
-    requires true_masks { TrueMasks trace_setup (lent blocks counters marks words memory) masks }
-    ensures memory_value { count_stage result (after blocks counters marks words memory)
-        ≡ fed (count_stage count (before blocks counters marks words memory)) bytes.now }
-    ensures masks_after { masks.new ≡ masks_of trace_setup (after blocks counters marks words memory) }
+    requires countable { Countable (count_stage count (lent blocks.old counters.old marks.old words.old memory.old)) }
+    requires true_masks { TrueMasks trace_setup (lent blocks.old counters.old marks.old words.old memory.old) masks.old }
+    ensures memory_value { count_stage result (lent blocks.new counters.new marks.new words.new memory.new)
+        ≡ fed (count_stage count (lent blocks.old counters.old marks.old words.old memory.old)) bytes.now }
+    ensures masks_after { masks.new ≡ masks_of trace_setup (lent blocks.new counters.new marks.new words.new memory.new) }
 {
     if count.refusal != protocol_types::NO_REFUSAL {
         return count;
@@ -119,11 +119,11 @@ pub fn finish(
     memory: &mut [u32],
     masks: &mut [u8],
 ) -> Report
-    requires countable { Countable (count_stage count (lent blocks counters marks words memory)) }
-    requires true_masks { TrueMasks trace_setup (lent blocks counters marks words memory) masks }
-    ensures memory_value { reporting result (after blocks counters marks words memory)
-        ≡ finished (count_stage count (before blocks counters marks words memory)) }
-    ensures masks_after { masks.new ≡ masks_of trace_setup (after blocks counters marks words memory) }
+    requires countable { Countable (count_stage count (lent blocks.old counters.old marks.old words.old memory.old)) }
+    requires true_masks { TrueMasks trace_setup (lent blocks.old counters.old marks.old words.old memory.old) masks.old }
+    ensures memory_value { reporting result (lent blocks.new counters.new marks.new words.new memory.new)
+        ≡ finished (count_stage count (lent blocks.old counters.old marks.old words.old memory.old)) }
+    ensures masks_after { masks.new ≡ masks_of trace_setup (lent blocks.new counters.new marks.new words.new memory.new) }
 {
     if count.refusal != protocol_types::NO_REFUSAL {
         return count.reported();
@@ -155,9 +155,9 @@ fn count_fresh(
     memory: &mut [u32],
     masks: &mut [u8],
 ) -> Report
-    requires memory_value { lent blocks counters marks words memory ≡ fresh trace_setup }
-    requires true_masks { TrueMasks trace_setup (lent blocks counters marks words memory) masks }
-    ensures { reporting result (after blocks counters marks words memory) ≡ ended bytes.now }
+    requires memory_value { lent blocks.old counters.old marks.old words.old memory.old ≡ fresh trace_setup }
+    requires true_masks { TrueMasks trace_setup (lent blocks.old counters.old marks.old words.old memory.old) masks.old }
+    ensures { reporting result (lent blocks.new counters.new marks.new words.new memory.new) ≡ ended bytes.now }
 {
     let count = feed(
         Count::new(),
@@ -181,8 +181,8 @@ pub fn count_trace(
     words: &mut [u32],
     memory: &mut [u32],
 ) -> Report
-    ensures { reporting result (after blocks counters marks words memory)
-        ≡ ended_on (before blocks counters marks words memory) bytes.now }
+    ensures { reporting result (lent blocks.new counters.new marks.new words.new memory.new)
+        ≡ ended_on (lent blocks.old counters.old marks.old words.old memory.old) bytes.now }
 {
     let mut masks = [0u8; BLOCKS];
     let started = engine_tables::start(

@@ -2,7 +2,7 @@
 #![tactic(auto)]
 
 ghost use Rattle.std.specs.Prelude.{◌≡◌, ◌<◌};
-ghost use Rattle.protocol.specs.Lent.{lent, before, after, TrueMasks};
+ghost use Rattle.protocol.specs.Lent.{lent, TrueMasks};
 ghost use Rattle.protocol.specs.Masks.{masks_of};
 ghost use Rattle.protocol_types.specs.Conditions.{request_limit};
 ghost use Rattle.protocol.specs.Accounts.{entered, Spent, bill_of};
@@ -114,11 +114,11 @@ fn take_request(
     memory: &mut [u32],
     masks: &mut [u8],
 ) -> Count
-    requires countable { Countable (count_stage count (lent blocks counters marks words memory)) }
-    requires true_masks { TrueMasks trace_setup (lent blocks counters marks words memory) masks }
-    ensures memory_value { count_stage result (after blocks counters marks words memory)
-        ≡ line_counted (count_stage count (before blocks counters marks words memory)) (Meaning.Asks request) }
-    ensures masks_after { masks.new ≡ masks_of trace_setup (after blocks counters marks words memory) }
+    requires countable { Countable (count_stage count (lent blocks.old counters.old marks.old words.old memory.old)) }
+    requires true_masks { TrueMasks trace_setup (lent blocks.old counters.old marks.old words.old memory.old) masks.old }
+    ensures memory_value { count_stage result (lent blocks.new counters.new marks.new words.new memory.new)
+        ≡ line_counted (count_stage count (lent blocks.old counters.old marks.old words.old memory.old)) (Meaning.Asks request) }
+    ensures masks_after { masks.new ≡ masks_of trace_setup (lent blocks.new counters.new marks.new words.new memory.new) }
 {
     let account = count.account;
     let setup = trace_setup();
@@ -149,11 +149,11 @@ pub fn end_line(
     memory: &mut [u32],
     masks: &mut [u8],
 ) -> Count
-    requires countable { Countable (count_stage count (lent blocks counters marks words memory)) }
-    requires true_masks { TrueMasks trace_setup (lent blocks counters marks words memory) masks }
-    ensures memory_value { count_stage result (after blocks counters marks words memory)
-        ≡ line_ended (count_stage count (before blocks counters marks words memory)) parsed }
-    ensures masks_after { masks.new ≡ masks_of trace_setup (after blocks counters marks words memory) }
+    requires countable { Countable (count_stage count (lent blocks.old counters.old marks.old words.old memory.old)) }
+    requires true_masks { TrueMasks trace_setup (lent blocks.old counters.old marks.old words.old memory.old) masks.old }
+    ensures memory_value { count_stage result (lent blocks.new counters.new marks.new words.new memory.new)
+        ≡ line_ended (count_stage count (lent blocks.old counters.old marks.old words.old memory.old)) parsed }
+    ensures masks_after { masks.new ≡ masks_of trace_setup (lent blocks.new counters.new marks.new words.new memory.new) }
 {
     let meaning = interpret(count.line_number, parsed);
     match meaning {

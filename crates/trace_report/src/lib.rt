@@ -3,7 +3,7 @@
 
 ghost use Rattle.std.specs.Prelude.{◌≡◌};
 ghost use Rattle.protocol.specs.Tables.{fresh};
-ghost use Rattle.protocol.specs.Lent.{lent, before, after, TrueMasks};
+ghost use Rattle.protocol.specs.Lent.{lent, TrueMasks};
 ghost use Rattle.protocol.specs.Masks.{masks_of};
 ghost use Rattle.trace_lines.specs.Trace.{trace_setup};
 ghost use Rattle.trace_count.specs.Counting.{count_stage, Countable};
@@ -42,11 +42,11 @@ fn count_read(
     memory: &mut [u32],
     masks: &mut [u8],
 ) -> Progress
-    requires countable { Countable (count_stage count (lent blocks counters marks words memory)) }
-    requires true_masks { TrueMasks trace_setup (lent blocks counters marks words memory) masks }
-    ensures memory_value { reading result (after blocks counters marks words memory)
-        ≡ after_read (count_stage count (before blocks counters marks words memory)) (read_of got buffer.now) }
-    ensures masks_after { masks.new ≡ masks_of trace_setup (after blocks counters marks words memory) }
+    requires countable { Countable (count_stage count (lent blocks.old counters.old marks.old words.old memory.old)) }
+    requires true_masks { TrueMasks trace_setup (lent blocks.old counters.old marks.old words.old memory.old) masks.old }
+    ensures memory_value { reading result (lent blocks.new counters.new marks.new words.new memory.new)
+        ≡ after_read (count_stage count (lent blocks.old counters.old marks.old words.old memory.old)) (read_of got buffer.now) }
+    ensures masks_after { masks.new ≡ masks_of trace_setup (lent blocks.new counters.new marks.new words.new memory.new) }
 {
     if got <= 0 {
         return Progress {
@@ -85,11 +85,11 @@ fn read_some(
     memory: &mut [u32],
     masks: &mut [u8],
 ) -> Progress
-    requires countable { Countable (count_stage count (lent blocks counters marks words memory)) }
-    requires true_masks { TrueMasks trace_setup (lent blocks counters marks words memory) masks }
-    ensures took { Took (count_stage count (before blocks counters marks words memory)) buffer.new
-        (reading result (after blocks counters marks words memory)) }
-    ensures masks_after { masks.new ≡ masks_of trace_setup (after blocks counters marks words memory) }
+    requires countable { Countable (count_stage count (lent blocks.old counters.old marks.old words.old memory.old)) }
+    requires true_masks { TrueMasks trace_setup (lent blocks.old counters.old marks.old words.old memory.old) masks.old }
+    ensures took { Took (count_stage count (lent blocks.old counters.old marks.old words.old memory.old)) buffer.new
+        (reading result (lent blocks.new counters.new marks.new words.new memory.new)) }
+    ensures masks_after { masks.new ≡ masks_of trace_setup (lent blocks.new counters.new marks.new words.new memory.new) }
 {
     let got = libc::read(STDIN_FILENO, buffer);
     count_read(
@@ -107,10 +107,10 @@ fn read_all(
     memory: &mut [u32],
     masks: &mut [u8],
 ) -> Progress
-    requires memory_value { lent blocks counters marks words memory ≡ fresh trace_setup }
-    requires true_masks { TrueMasks trace_setup (lent blocks counters marks words memory) masks }
-    ensures reached { Reached (reading result (after blocks counters marks words memory)) }
-    ensures masks_after { masks.new ≡ masks_of trace_setup (after blocks counters marks words memory) }
+    requires memory_value { lent blocks.old counters.old marks.old words.old memory.old ≡ fresh trace_setup }
+    requires true_masks { TrueMasks trace_setup (lent blocks.old counters.old marks.old words.old memory.old) masks.old }
+    ensures reached { Reached (reading result (lent blocks.new counters.new marks.new words.new memory.new)) }
+    ensures masks_after { masks.new ≡ masks_of trace_setup (lent blocks.new counters.new marks.new words.new memory.new) }
 {
     let mut at = Progress {
         going: true,
@@ -146,8 +146,8 @@ fn read_report(
     memory: &mut [u32],
     masks: &mut [u8],
 ) -> Answer
-    requires memory_value { lent blocks counters marks words memory ≡ fresh trace_setup }
-    requires true_masks { TrueMasks trace_setup (lent blocks counters marks words memory) masks }
+    requires memory_value { lent blocks.old counters.old marks.old words.old memory.old ≡ fresh trace_setup }
+    requires true_masks { TrueMasks trace_setup (lent blocks.old counters.old marks.old words.old memory.old) masks.old }
     ensures { Reported result }
 {
     let mut buffer = io::large_buffer();

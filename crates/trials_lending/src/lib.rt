@@ -3,12 +3,12 @@
 #![tactic(auto)]
 
 ghost use Rattle.std.specs.Prelude.{◌≡◌, length};
-ghost use Rattle.protocol.specs.Lent.{masked_before, masked_after};
+ghost use Rattle.protocol.specs.Lent.{lent_masked};
 ghost use Rattle.protocol.specs.Engines.{run as ran};
 ghost use Rattle.protocol.specs.Runs.{masked_engine};
 ghost use Rattle.protocol.specs.Pricer.{price as priced, price_tables, in_numbers, price_numbers};
 ghost use Rattle.protocol.specs.Generator.{generate_refusal, generated};
-ghost use Rattle.rival_copies.specs.Copies.{rival_before, rival_after};
+ghost use Rattle.rival_copies.specs.Copies.{rival_lent};
 ghost use Rattle.run_progress.specs.Progress.{outcome};
 
 use host_numbers::Ran;
@@ -32,8 +32,8 @@ pub fn run_array(
     requests: [Request; REQUESTS],
     values: &mut [u32],
 ) -> Ran
-    ensures { outcome result.answer (masked_after blocks counters marks words memory masks) result.account values.new
-        ≡ ran (masked_engine setup) (masked_before blocks counters marks words memory masks) account requests values.old }
+    ensures { outcome result.answer (lent_masked blocks.new counters.new marks.new words.new memory.new masks.new) result.account values.new
+        ≡ ran (masked_engine setup) (lent_masked blocks.old counters.old marks.old words.old memory.old masks.old) account requests values.old }
 {
     let answer = run::run(
         setup,
@@ -62,9 +62,9 @@ pub fn price_arrays(
     entries: [Entry; ENTRIES],
     requests: [Request; REQUESTS],
 ) -> PriceAnswer
-    ensures { (result ≡ priced setup (rival_before blocks held marks) requests entries)
-        × (in_numbers result ≡ price_numbers setup (rival_before blocks held marks) requests entries)
-        × (rival_after blocks held marks ≡ price_tables setup (rival_before blocks held marks) requests entries) }
+    ensures { (result ≡ priced setup (rival_lent blocks.old held.old marks.old) requests entries)
+        × (in_numbers result ≡ price_numbers setup (rival_lent blocks.old held.old marks.old) requests entries)
+        × (rival_lent blocks.new held.new marks.new ≡ price_tables setup (rival_lent blocks.old held.old marks.old) requests entries) }
 {
     rival_pricer::price(setup, blocks, held, marks, &entries, &requests)
 }
