@@ -1,0 +1,45 @@
+-- Up to each bit that is visited the copies have the word (the laws of visits), which lies within those of its slot (word_index-lt); what is left of the mask
+-- gets smaller.
+use Prim.Native.Nat.{ℕ, suc}
+use mathlib.Core.Path.{◌≡◌, refl, ◌∙◌}
+use mathlib.Core.List.{List}
+use native.Mathlib.Omega.{arith}
+use lib.ListN.{length}
+use Rattle.protocol_types.specs.Board.{slots}
+use Rattle.protocol.specs.Tables.{tables}
+use Rattle.protocol.specs.Masks.{holders}
+use Rattle.protocol.specs.Rules.{updated_copies}
+use Rattle.protocol_types.proofs.Board.{word_index-lt}
+use Rattle.bits.proofs.Visits.{Visited, visits-start, turn}
+use Rattle.engine_holders.proofs.Search.{copies-next, copies-ended}
+use Rattle.engine_holders.proofs.update_copies.Goals as goal
+
+pub loop-copies-init : goal.loop-copies-init
+loop-copies-init c =
+    let a = c.args in
+    (0, visits-start a.setup.processors a.mask c.requires.fits.few-processors c.requires.mask_bound, refl, λ b k m g e. refl)
+
+pub slot-k-requires : goal.slot-k-requires
+slot-k-requires c =
+    let t = turn c.loop-copies.invariant.1 (omega arith) c.lowest.ensures in record {
+      fits = c.requires.fits;
+      processor_lt_processors = t.below;
+    }
+
+pub set_word-requires : goal.set_word-requires
+set_word-requires c =
+    let a = c.args in
+    omega (arith, word_index-lt a.setup c.requires.fits c.slot-k.result (slots a.setup) a.offset c.slot-k.ensures.within c.requires.offset_lt_words, c.loop-copies.invariant.2)
+
+pub loop-copies-smaller : goal.loop-copies-smaller
+loop-copies-smaller c =
+    let t = turn c.loop-copies.invariant.1 (omega arith) c.lowest.ensures in
+    rw c.without_lowest-copies.ensures t.less
+
+pub shape_of-words : goal.shape_of-words
+shape_of-words c = c.loop-copies.invariant.2
+
+pub returns : goal.returns
+returns c b k m g e =
+    let a = c.args in
+    copies-ended a.setup (tables b k m a.words.now g) a.block e a.offset a.value (c.loop-copies.invariant.3 b k m g e) c.loop-copies.invariant.1 (omega arith)

@@ -1,0 +1,23 @@
+use Prim.Native.Nat.{ℕ, suc}
+use mathlib.Core.Path.{◌≡◌, refl, ◌∙◌}
+use mathlib.Core.List.{List}
+use native.Mathlib.Omega.{arith}
+use lib.ListN.{length}
+use Rattle.protocol_types.specs.Board.{slots}
+use Rattle.protocol.specs.Tables.{tables}
+use Rattle.protocol.specs.Masks.{holders}
+use Rattle.protocol.specs.Rules.{updated_copies}
+use Rattle.protocol_types.proofs.Board.{word_index-lt}
+use Rattle.bits.proofs.Visits.{Visited, visits-start, turn}
+use Rattle.engine_holders.proofs.Search.{copies-next, copies-ended}
+use Rattle.engine_holders.proofs.update_copies.Given as goal
+
+abbrev pub invariant-loop-copies : goal.invariant-loop-copies
+invariant-loop-copies l =
+    (upto : ℕ)
+    × Visited l.setup.processors l.mask upto l.copies
+    × (length l.words ≡ length l.initial.words)
+    × ((b c m g : List ℕ) → l.mask ≡ holders l.setup (tables b c m l.initial.words g) l.block → l.words ≡ updated_copies l.setup (tables b c m l.initial.words g) l.block l.offset l.value upto)
+
+abbrev pub decreases-loop-copies : goal.decreases-loop-copies
+decreases-loop-copies l = l.copies
