@@ -1,13 +1,9 @@
 use Prim.Native.Nat.{ℕ, ◌≤◌, ◌-◌}
-use mathlib.Core.Path.{◌≡◌, ◌∙◌}
-use mathlib.Core.Logic.{⊎_elim}
+use mathlib.Core.Path.{◌≡◌}
 use mathlib.Core.List.{List}
-use native.Mathlib.Omega.{arith}
 use Rattle.protocol_types.specs.Lists.{first_from}
 use Rattle.protocol.specs.Tables.{tables}
 use Rattle.engine_holders.specs.Searches.{other_holds, other_holder}
-use Rattle.protocol_types.proofs.Search.{search-started, search-found, search-passed, search-ended}
-use Rattle.engine_holders.proofs.Search.{other-holder-is}
 use Rattle.engine_holders.proofs.other_holder.Given as goal
 
 abbrev pub invariant-loop-other : goal.invariant-loop-other

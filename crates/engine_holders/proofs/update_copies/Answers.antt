@@ -1,16 +1,12 @@
 -- Up to each bit that is visited the copies have the word (the laws of visits), which lies within those of its slot (word_index-lt); what is left of the mask
 -- gets smaller.
-use Prim.Native.Nat.{ℕ, suc}
-use mathlib.Core.Path.{◌≡◌, refl, ◌∙◌}
-use mathlib.Core.List.{List}
+use Prim.Native.Nat.{suc}
+use mathlib.Core.Path.{refl, ◌∙◌}
 use native.Mathlib.Omega.{arith}
-use lib.ListN.{length}
 use Rattle.protocol_types.specs.Board.{slots}
 use Rattle.protocol.specs.Tables.{tables}
-use Rattle.protocol.specs.Masks.{holders}
-use Rattle.protocol.specs.Rules.{updated_copies}
 use Rattle.protocol_types.proofs.Board.{word_index-lt}
-use Rattle.bits.proofs.Visits.{Visited, visits-start, turn}
+use Rattle.bits.proofs.Visits.{visits-start, turn}
 use Rattle.engine_holders.proofs.Search.{copies-next, copies-ended}
 use Rattle.engine_holders.proofs.update_copies.Goals as goal
 
@@ -43,3 +39,14 @@ pub returns : goal.returns
 returns c b k m g e =
     let a = c.args in
     copies-ended a.setup (tables b k m a.words.now g) a.block e a.offset a.value (c.loop-copies.invariant.3 b k m g e) c.loop-copies.invariant.1 (omega arith)
+
+pub loop-copies-preserved : goal.loop-copies-preserved
+loop-copies-preserved c =
+    let a = c.args in
+    let t = turn c.loop-copies.invariant.1 (omega arith) c.lowest.ensures in (
+      suc c.lowest.result,
+      rw c.without_lowest-copies.ensures t.next,
+      c.set_word.auto.words ∙ c.loop-copies.invariant.2,
+      λ b k m g e. rw (c.set_word.ensures, c.slot-k.ensures.value)
+          (copies-next a.setup (tables b k m a.words.now g) a.block e a.offset a.value (c.loop-copies.invariant.3 b k m g e) t),
+    )

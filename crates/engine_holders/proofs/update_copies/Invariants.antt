@@ -1,15 +1,11 @@
-use Prim.Native.Nat.{ℕ, suc}
-use mathlib.Core.Path.{◌≡◌, refl, ◌∙◌}
+use Prim.Native.Nat.{ℕ}
+use mathlib.Core.Path.{◌≡◌}
 use mathlib.Core.List.{List}
-use native.Mathlib.Omega.{arith}
 use lib.ListN.{length}
-use Rattle.protocol_types.specs.Board.{slots}
 use Rattle.protocol.specs.Tables.{tables}
 use Rattle.protocol.specs.Masks.{holders}
 use Rattle.protocol.specs.Rules.{updated_copies}
-use Rattle.protocol_types.proofs.Board.{word_index-lt}
-use Rattle.bits.proofs.Visits.{Visited, visits-start, turn}
-use Rattle.engine_holders.proofs.Search.{copies-next, copies-ended}
+use Rattle.bits.proofs.Visits.{Visited}
 use Rattle.engine_holders.proofs.update_copies.Given as goal
 
 abbrev pub invariant-loop-copies : goal.invariant-loop-copies
