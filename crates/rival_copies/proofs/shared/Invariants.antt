@@ -1,14 +1,9 @@
 use Prim.Native.Nat.{ℕ, ◌≤◌, ◌-◌}
-use mathlib.Core.Path.{◌≡◌, ap, ◌∙◌}
-use mathlib.Core.Logic.{⊎_elim}
+use mathlib.Core.Path.{◌≡◌}
 use mathlib.Core.List.{List}
-use native.Mathlib.Omega.{arith}
-use lib.Dec.{ltb}
 use Rattle.protocol_types.specs.Lists.{first_from, first}
 use Rattle.protocol.specs.Rival.{rival}
-use Rattle.protocol_types.proofs.Search.{search-started, search-found, search-passed, search-ended}
 use Rattle.rival_copies.specs.Copies.{another_keeps}
-use Rattle.rival_copies.proofs.Laws.{shared-is}
 use Rattle.rival_copies.proofs.shared.Given as goal
 
 abbrev pub invariant-loop-j : goal.invariant-loop-j
