@@ -1,20 +1,19 @@
 -- The search for the next position: the first of the cheapest open positions is the only one that is open, least and the first of those, and so is what the
 -- two stages choose, the nearest group and then the first position there that has its distance.
 use Prim.Native.Nat.{ℕ, zero, suc, ◌+◌, ◌-◌, ◌*◌, ◌/◌, ◌≤◌, ◌<◌}
-use mathlib.Core.Path.{◌≡◌, refl, sym, ap, ◌∙◌}
+use mathlib.Core.Path.{◌≡◌, sym, ap, ◌∙◌}
 use mathlib.Core.Logic.{◌≢◌}
-use mathlib.Core.Bool.{Bool, true, false, ◌&&◌, ◌||◌, cond, true≢false}
+use mathlib.Core.Bool.{Bool, true, false, ◌&&◌, cond, true≢false}
 use mathlib.Core.List.{List}
 use native.Mathlib.Omega.{arith}
 use native.Mathlib.Numerals.{add-one}
-use lib.ListN.{length}
 use lib.Dec.{leb, ltb, eqb}
-use borrow.Author.Tests.{ltb-true, ltb-false, leb-true, leb-false, eqb-true, eqb-false, eq-eqb, ne_eqb, lt-ltb, le-ltb, le-leb, lt-leb}
+use borrow.Author.Tests.{ltb-true, leb-true, eqb-true, eq-eqb, ne_eqb, lt-ltb, le-ltb, le-leb}
 use Rattle.protocol_types.specs.Lists.{at, first, smaller, argmin_below}
 use Rattle.protocol_types.proofs.Laws.{Same, same, apart, same?, Under, under, over, under?, Known, sure, not_so, known, three-true, choice}
 use Rattle.protocol_types.proofs.Laws.{first_holds, first-before, first-none, Smallest, smallest-only, Argmin, none_pass, some-pass, argmin-below}
 use Rattle.best_search.specs.Search.{open?, cheaper, cheapest, upcoming}
-use Rattle.best_lowest.specs.Lowest.{waiting, lowest_in, lowest_of, group_below}
+use Rattle.best_lowest.specs.Lowest.{waiting, lowest_of, group_below}
 use Rattle.best_lowest.proofs.Lowest.{Lowest, lowest-is, waiting-open, groups-at, group-start, group-end, group-lt}
 
 -- ---- an open position waits, at no more than the limit
