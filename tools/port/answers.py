@@ -90,7 +90,7 @@ class Function:
         if head in ("args", "ranges", "lifetimes", "well_formed", "type_inv", "auto"):
             return depth, fields
         if head in ("requires", "pre"):
-            more = flat(rest, self.own[0])
+            more = flat(rest, self.own[0]) if rest else []
             return depth, ["requires"] + (more if more is not None else rest)
         for d in range(depth, len(chain)):
             place = chain[d]
@@ -103,25 +103,27 @@ class Function:
                             break
                     labels = self.callee(place)
                     params = self.names["params"].get(place[3]) if place[3] else None
-                    if rest[0] == "new" and params and len(rest) > 1 and rest[1] in ("0", "1"):
+                    if rest[0] in ("new", "auto") and params and len(rest) > 1 and rest[1] in ("0", "1"):
                         k = 1
                         while k < len(rest) and rest[k] == "1":
                             k += 1
                         if k < len(rest) and rest[k] == "0" and k - 1 < len(params):
-                            rest = ["new", params[k - 1]] + rest[k + 1:]
+                            rest = [rest[0], params[k - 1]] + rest[k + 1:]
                     if rest[0] in ("ensures", "requires") and labels:
-                        more = flat(rest[1:], labels[1 if rest[0] == "ensures" else 0])
+                        more = flat(rest[1:], labels[1 if rest[0] == "ensures" else 0]) if rest[1:] else []
                         if more is not None:
                             rest = [rest[0]] + more
                         else:
                             self.left.append(f"{self.path}: {head}.{'.'.join(rest)}")
                 return depth, [new] + rest
+        if depth > 0:
+            return self.resolve(chain, 0, fields)
         self.left.append(f"{self.path}: no step {head} at {chain[depth][0]}")
         return depth, fields
 
     def body(self, text, var, chain):
         """The body with flat paths; aliases of places go."""
-        alias = {var: 0}
+        alias, self.whole = {var: 0}, {}
         let = re.compile(r"let (" + WORD + r") = (" + WORD + r")((?:\.before)+|) in ?")
         token = re.compile(r"(?<![\w.'?-])(" + WORD + r")((?:\.(?:" + WORD + r"))*)")
         out, pos = [], 0
@@ -140,9 +142,28 @@ class Function:
                 out.append(token.sub(lambda t: self.turned(t, alias, chain), m.group(0)))
             pos = m.end()
         done = "".join(out)
+        # names of whole clauses: their fields by label
+        for name, labels in self.clauses(done, chain):
+            def relabel(t):
+                more = flat(t.group(1).strip(".").split("."), labels)
+                return t.group(0) if more is None else ".".join([name] + more)
+            done = re.sub(r"(?<![\w.'?-])" + re.escape(name) + r"((?:\.[01](?![\w'-]))+)", relabel, done)
         done = re.sub(r"\bnot-true _ ([\w.+-]+\.)true-raw", r"\1true", done)
         done = re.sub(r"\bnot-false _ ([\w.+-]+\.)false-raw", r"\1false", done)
         return "\n".join(l for i, l in enumerate(done.split("\n")) if l.strip() or i == 0)
+
+    def clauses(self, done, chain):
+        """The names that a `let` gives to all clauses of a contract, with their labels."""
+        for m in re.finditer(r"let (" + WORD + r") = c\.requires in", done):
+            if len(self.own[0]) > 1:
+                yield m.group(1), self.own[0]
+        for m in re.finditer(r"let (" + WORD + r") = c\.(" + WORD + r")\.ensures in", done):
+            for place in chain:
+                if place[2][1] == m.group(2):
+                    labels = self.callee(place)
+                    if labels and len(labels[1]) > 1:
+                        yield m.group(1), labels[1]
+                    break
 
     def turned(self, t, alias, chain):
         if t.group(1) not in alias:
