@@ -457,6 +457,7 @@ module _ (s : Setup) (ok : Fits s) (two : s.processors ≡ 2) (small : s.blocks 
       and-true (eq-eqb x.position (number s r n) (sym q)) (eq-eqb x.code (code_of e) (sym f))
 
   among-tried : (xs : List Tried) → Trace g xs → (r : Rival) (n : ℕ) (e : Entry) → Among (record { copies = r; served = n; entry = e }) (trials s xs) → was_tried xs (number s r n) (code_of e) ≡ true
+  among-tried [] t r n e a = elim a [ ]
   among-tried (x ∷ xs) t r n e (there a) = choice (λ z. z ≡ true) (is x (number s r n) (code_of e)) (λ f. refl) (λ f. among-tried xs t.4 r n e a)
   among-tried (x ∷ xs) t r n e (here p) = rw (this-one x (coded-reached xs x.position t.4 t.2) (code-of t.0) r n e p)
 

@@ -35,7 +35,6 @@ use Rattle.competitive.specs.EngineSchedule.{saving, evicting, obtaining, paying
 use Rattle.competitive.proofs.Half.{split-bill}
 use Rattle.competitive.proofs.EngineSchedule.{engine-is-rival}
 use Rattle.best_search.specs.Search.{Graph, size, State, Lawful, total, walk, EachTried, searched, route, forward, used, Best}
-use Rattle.best_search.specs.Search
 use Rattle.best_search.proofs.Answer.{best}
 use Rattle.best_positions.specs.Position.{asked_all, board, entry_number, numbers_of, entries_from}
 use Rattle.best_positions.specs.Best.{searchable, search_refusal, requests_refusal, best_refusal, position_count, engine_cycles, found, spelled, schedule, way_back, best_schedule, trials, EveryTried, BestSoFar}

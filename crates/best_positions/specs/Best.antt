@@ -1,5 +1,5 @@
 -- The best schedule found so far (document 02, P8): the conditions, the answer, the list, and what holds of them. proofs/SoFar proves `BestSoFar`.
-use Rattle.std.specs.Prelude.{ℕ, zero, suc, ◌+◌, ◌-◌, ◌*◌, ◌/◌, ◌≤◌, ◌≡◌, ◌≢◌, Bool, true, ◌&&◌, cond, List, [], ◌∷◌, ◌++◌, length, drop, eqb, leb}
+use Rattle.std.specs.Prelude.{ℕ, suc, ◌+◌, ◌-◌, ◌/◌, ◌≤◌, ◌≡◌, ◌≢◌, Bool, true, ◌&&◌, cond, List, [], ◌∷◌, ◌++◌, length, drop, eqb, leb}
 use Rattle.protocol_types.specs.Refusals.{no_refusal, unless, first_of, wrong_length, not_searchable}
 use Rattle.protocol_types.specs.Board.{setup_refusal}
 use Rattle.protocol_types.specs.Conditions.{request_refusal}

@@ -1,5 +1,5 @@
 -- The positions of document 02, P8, as numbers: "marks, copies and requests served"; and what each entry does there.
-use Rattle.std.specs.Prelude.{ℕ, zero, suc, ◌+◌, ◌-◌, ◌*◌, ◌/◌, ◌%◌, Bool, true, false, not, ◌&&◌, cond, List, [], ◌∷◌, length, ltb, eqb}
+use Rattle.std.specs.Prelude.{ℕ, zero, suc, ◌+◌, ◌-◌, ◌*◌, ◌/◌, ◌%◌, Bool, true, not, ◌&&◌, cond, List, [], ◌∷◌, length, ltb, eqb}
 use Rattle.protocol_types.specs.Lists.{at, first, all}
 use Rattle.protocol_types.specs.Board.{slots, slot, block_of, line_of, fetch_price, write_back_price}
 use Rattle.protocol.specs.Rival.{Rival, rival, keeps}
