@@ -1,9 +1,7 @@
 -- The position is reached anew where its distance falls, and then it is not settled; else nothing but the entry changes.
 use Prim.Native.Nat.{◌+◌}
-use mathlib.Core.Path.{◌≡◌, refl, sym, ap, ◌∙◌}
-use mathlib.Core.Bool.{true, false, ◌||◌}
+use mathlib.Core.Path.{sym, ap, ◌∙◌}
 use native.Mathlib.Omega.{arith}
-use lib.Dec.{eqb, ltb}
 use Rattle.protocol_types.specs.Lists.{at}
 use Rattle.protocol_types.proofs.Laws.{failed, passed}
 use Rattle.best_search.specs.Search.{past}
