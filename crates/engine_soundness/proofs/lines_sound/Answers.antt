@@ -1,16 +1,12 @@
 -- The invariants: each line passed of processor i is sound, and each processor passed.
 -- Assumes nothing.
-use mathlib.Core.Logic.{⊎_elim}
 use mathlib.Core.Path.{◌≡◌, refl, sym, ◌∙◌}
-use mathlib.Core.Bool.{true}
-use Prim.Native.Nat.{◌≤◌, ◌-◌}
 use native.Mathlib.Omega.{arith}
-use Rattle.protocol_types.specs.Lists.{all}
 use Rattle.protocol.specs.Tables.{tables}
 use Rattle.parts.proofs.Laws.{all_more, all-false}
-use Rattle.protocol_types.proofs.Laws.{failed, passed}
 use Rattle.engine_soundness.proofs.Lines.{scan-ended, scan-stopped, line_test, cache_test, sound-is}
 use Rattle.engine_soundness.proofs.lines_sound.Goals as goal
+use Rattle.engine_soundness.proofs.lines_sound.Goals.{else-scan-test, then-scan-test+then-loop-l-test+then-not-line_sound}
 
 pub scan-init : goal.scan-init
 scan-init c = (omega arith, refl)
@@ -22,7 +18,7 @@ pub loop-l-preserved : goal.loop-l-preserved
 loop-l-preserved c =
     let a = c.args in
     let t = (tables a.blocks.now a.counters.now a.marks.now a.words.now a.memory.now) in
-    (omega arith, all_more (line_test a.setup t c.scan.i) c.loop-l.l c.loop-l.invariant.1 (passed c.line_sound.ensures c.if-not-line_sound.false-raw))
+    (omega arith, all_more (line_test a.setup t c.scan.i) c.loop-l.l c.loop-l.invariant.1 (sym c.line_sound.ensures ∙ c.if-not-line_sound.false))
 
 pub scan-preserved : goal.scan-preserved
 scan-preserved c =
@@ -38,8 +34,8 @@ returns c =
     let t = (tables a.blocks.now a.counters.now a.marks.now a.words.now a.memory.now) in
     let n = s.processors in
     let i = c.scan.i in
-    ⊎_elim
-    (λ w. scan-ended (cache_test s t) n i (omega (arith, w.left)) c.scan.invariant.1)
-    (λ w. scan-stopped (cache_test s t) n i w.0.taken (all-false (line_test s t i) s.lines w.1.l w.2.taken (failed w.3.ensures w.4.taken)))
-    c.scan-test.branch
+    elim c.scan-test.branch [
+      | else-scan-test w ↦ scan-ended (cache_test s t) n i (omega arith) c.scan.invariant.1
+      | then-scan-test+then-loop-l-test+then-not-line_sound w ↦ scan-stopped (cache_test s t) n i (omega arith) (all-false (line_test s t i) s.lines w.loop-l.l (omega arith) (sym w.line_sound.ensures ∙ w.if-not-line_sound.true))
+    ]
     ∙ sym (sound-is s t)

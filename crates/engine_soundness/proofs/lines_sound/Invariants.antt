@@ -1,13 +1,9 @@
-use mathlib.Core.Logic.{⊎_elim}
-use mathlib.Core.Path.{◌≡◌, refl, sym, ◌∙◌}
+use mathlib.Core.Path.{◌≡◌}
 use mathlib.Core.Bool.{true}
 use Prim.Native.Nat.{◌≤◌, ◌-◌}
-use native.Mathlib.Omega.{arith}
 use Rattle.protocol_types.specs.Lists.{all}
 use Rattle.protocol.specs.Tables.{tables}
-use Rattle.parts.proofs.Laws.{all_more, all-false}
-use Rattle.protocol_types.proofs.Laws.{failed, passed}
-use Rattle.engine_soundness.proofs.Lines.{scan-ended, scan-stopped, line_test, cache_test, sound-is}
+use Rattle.engine_soundness.proofs.Lines.{line_test, cache_test}
 use Rattle.engine_soundness.proofs.lines_sound.Given as goal
 
 abbrev pub invariant-loop-l : goal.invariant-loop-l

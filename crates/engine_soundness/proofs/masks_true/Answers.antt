@@ -1,18 +1,14 @@
 -- The invariant: each mask passed is the true one of its block.
 -- Assumes nothing.
-use mathlib.Core.Path.{◌≡◌, refl, sym, ◌∙◌}
-use mathlib.Core.Logic.{⊎_elim}
-use mathlib.Core.Bool.{true}
-use mathlib.Core.List.{List}
-use Prim.Native.Nat.{ℕ, ◌≤◌, ◌-◌}
+use mathlib.Core.Path.{refl, sym, ◌∙◌}
 use native.Mathlib.Omega.{arith}
 use borrow.Author.Tests.{eq-eqb, ne_eqb}
-use Rattle.protocol_types.specs.Lists.{all}
 use Rattle.protocol.specs.Tables.{tables}
 use Rattle.protocol.specs.Masks.{masked}
 use Rattle.parts.proofs.Laws.{all_more}
 use Rattle.engine_soundness.proofs.Lines.{scan-ended, scan-stopped, mask_test, true-masks-is}
 use Rattle.engine_soundness.proofs.masks_true.Goals as goal
+use Rattle.engine_soundness.proofs.masks_true.Goals.{else-loop-b-test, then-loop-b-test+then-masks-b}
 
 pub loop-b-init : goal.loop-b-init
 loop-b-init c = (omega arith, λ m w g. refl)
@@ -32,8 +28,8 @@ returns c m w g =
     let x = masked (tables a.blocks.now a.counters.now m w g) a.masks.now in
     let n = s.blocks in
     let b = c.loop-b.b in
-    ⊎_elim
-    (λ e. scan-ended (mask_test s x) n b (omega (arith, e.left)) (c.loop-b.invariant.1 m w g))
-    (λ e. scan-stopped (mask_test s x) n b e.0.taken (ne_eqb _ _ (λ d. e.3.taken (d ∙ sym (e.2.ensures m w g)))))
-    c.loop-b-test.branch
+    elim c.loop-b-test.branch [
+      | else-loop-b-test e ↦ scan-ended (mask_test s x) n b (omega arith) (c.loop-b.invariant.1 m w g)
+      | then-loop-b-test+then-masks-b e ↦ scan-stopped (mask_test s x) n b (omega arith) (ne_eqb _ _ (λ d. e.if-masks-b.true (d ∙ sym (e.block_mask.ensures m w g))))
+    ]
     ∙ sym (true-masks-is s x)

@@ -1,15 +1,11 @@
-use mathlib.Core.Path.{◌≡◌, refl, sym, ◌∙◌}
-use mathlib.Core.Logic.{⊎_elim}
+use mathlib.Core.Path.{◌≡◌}
 use mathlib.Core.Bool.{true}
 use mathlib.Core.List.{List}
 use Prim.Native.Nat.{ℕ, ◌≤◌, ◌-◌}
-use native.Mathlib.Omega.{arith}
-use borrow.Author.Tests.{eq-eqb, ne_eqb}
 use Rattle.protocol_types.specs.Lists.{all}
 use Rattle.protocol.specs.Tables.{tables}
 use Rattle.protocol.specs.Masks.{masked}
-use Rattle.parts.proofs.Laws.{all_more}
-use Rattle.engine_soundness.proofs.Lines.{scan-ended, scan-stopped, mask_test, true-masks-is}
+use Rattle.engine_soundness.proofs.Lines.{mask_test}
 use Rattle.engine_soundness.proofs.masks_true.Given as goal
 
 abbrev pub invariant-loop-b : goal.invariant-loop-b

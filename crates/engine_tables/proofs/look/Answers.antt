@@ -1,25 +1,24 @@
 -- What `sees` tells (looked-is, shown); the row of the slot lies within the words (row-end).
 use Prim.Native.Nat.{ℕ, ◌*◌}
-use mathlib.Core.Path.{ap}
+use mathlib.Core.Path.{ap, sym, ◌∙◌}
 use native.Mathlib.Nat.{add-sub_cancel_left, add-zero}
 use native.Mathlib.Omega.{arith}
 use lib.ListN.{length}
 use Rattle.protocol_types.specs.Lists.{part}
 use Rattle.protocol_types.specs.Board.{slots, word_index}
 use Rattle.protocol_types.proofs.Rows.{row-end}
-use Rattle.protocol_types.proofs.Laws.{failed, passed}
 use Rattle.engine_tables.proofs.Tests.{looked-is, shown}
 use Rattle.engine_tables.proofs.look.Goals as goal
 
 pub returns-then-not-sees : goal.returns-then-not-sees
 returns-then-not-sees c =
     let a = c.args in
-    rw (looked-is a.setup a.blocks.now a.counters.now a.words.now a.processor a.block, failed c.sees.ensures c.if-not-sees.true-raw)
+    rw (looked-is a.setup a.blocks.now a.counters.now a.words.now a.processor a.block, sym c.sees.ensures ∙ c.if-not-sees.true)
 
 pub slot-requires : goal.slot-requires
 slot-requires c =
     let a = c.args in
-    let v = shown a.setup a.blocks.now a.counters.now (length a.words.now) a.processor a.block (passed c.sees.ensures c.if-not-sees.false-raw) in record {
+    let v = shown a.setup a.blocks.now a.counters.now (length a.words.now) a.processor a.block (sym c.sees.ensures ∙ c.if-not-sees.false) in record {
       fits = v.fits;
       processor_lt_processors = omega (arith, v.processor, v.fits);
     }
@@ -28,28 +27,28 @@ pub overflow_mul-a : goal.overflow_mul-a
 unfolding word_index
 overflow_mul-a c =
     let a = c.args in
-    let v = shown a.setup a.blocks.now a.counters.now (length a.words.now) a.processor a.block (passed c.sees.ensures c.if-not-sees.false-raw) in
+    let v = shown a.setup a.blocks.now a.counters.now (length a.words.now) a.processor a.block (sym c.sees.ensures ∙ c.if-not-sees.false) in
     omega (arith, row-end a.setup c.slot.result (slots a.setup) c.slot.ensures.within, v.words)
 
 pub overflow_add-e : goal.overflow_add-e
 unfolding word_index
 overflow_add-e c =
     let a = c.args in
-    let v = shown a.setup a.blocks.now a.counters.now (length a.words.now) a.processor a.block (passed c.sees.ensures c.if-not-sees.false-raw) in
+    let v = shown a.setup a.blocks.now a.counters.now (length a.words.now) a.processor a.block (sym c.sees.ensures ∙ c.if-not-sees.false) in
     omega (arith, row-end a.setup c.slot.result (slots a.setup) c.slot.ensures.within, v.words)
 
 pub offset_bounds-words-a : goal.offset_bounds-words-a
 unfolding word_index
 offset_bounds-words-a c =
     let a = c.args in
-    let v = shown a.setup a.blocks.now a.counters.now (length a.words.now) a.processor a.block (passed c.sees.ensures c.if-not-sees.false-raw) in
+    let v = shown a.setup a.blocks.now a.counters.now (length a.words.now) a.processor a.block (sym c.sees.ensures ∙ c.if-not-sees.false) in
     omega (arith, row-end a.setup c.slot.result (slots a.setup) c.slot.ensures.within, v.words)
 
 pub slice_bounds-result-end-2 : goal.slice_bounds-result-end-2
 unfolding word_index
 slice_bounds-result-end-2 c =
     let a = c.args in
-    let v = shown a.setup a.blocks.now a.counters.now (length a.words.now) a.processor a.block (passed c.sees.ensures c.if-not-sees.false-raw) in
+    let v = shown a.setup a.blocks.now a.counters.now (length a.words.now) a.processor a.block (sym c.sees.ensures ∙ c.if-not-sees.false) in
     omega (arith, row-end a.setup c.slot.result (slots a.setup) c.slot.ensures.within, v.words)
 
 pub returns : goal.returns
@@ -58,7 +57,7 @@ returns c =
     let a = c.args in
     rw (
       looked-is a.setup a.blocks.now a.counters.now a.words.now a.processor a.block,
-      passed c.sees.ensures c.if-not-sees.false-raw,
+      sym c.sees.ensures ∙ c.if-not-sees.false,
       add-sub_cancel_left (c.slot.result * a.setup.words) a.setup.words,
       add-zero,
     )

@@ -4,7 +4,6 @@ use mathlib.Core.Path.{sym, ◌∙◌}
 use Rattle.protocol.specs.Tables.{tables, fresh}
 use Rattle.protocol.specs.Masks.{masked, fresh_masked}
 use Rattle.protocol_types.proofs.Board.{setup-fits}
-use Rattle.protocol_types.proofs.Laws.{failed, passed}
 use Rattle.engine_tables.proofs.Tests.{start-refused, start-unsized, start-filled, sized-is, passed-lengths}
 use Rattle.engine_tables.proofs.start.Goals as goal
 
@@ -24,7 +23,7 @@ pub returns-then-not-lengths_fit : goal.returns-then-not-lengths_fit
 returns-then-not-lengths_fit c =
     let a = c.args in
     let x = masked (tables a.blocks.now a.counters.now a.marks.now a.words.now a.memory.now) a.masks.now in
-    let r = start-unsized a.setup x (sym c.refusal-refusal.ensures ∙ c.if-refusal-ne-NO_REFUSAL.false) (sized-is a.setup x ∙ failed c.lengths_fit.ensures c.if-not-lengths_fit.true-raw) in record {
+    let r = start-unsized a.setup x (sym c.refusal-refusal.ensures ∙ c.if-refusal-ne-NO_REFUSAL.false) (sized-is a.setup x ∙ sym c.lengths_fit.ensures ∙ c.if-not-lengths_fit.true) in record {
       value = r.0;
       masks_value = r.1;
     }
@@ -34,7 +33,7 @@ unfolding fresh fresh_masked
 returns c =
     let a = c.args in
     let x = masked (tables a.blocks.now a.counters.now a.marks.now a.words.now a.memory.now) a.masks.now in
-    let l = sized-is a.setup x ∙ passed c.lengths_fit.ensures c.if-not-lengths_fit.false-raw in
+    let l = sized-is a.setup x ∙ sym c.lengths_fit.ensures ∙ c.if-not-lengths_fit.false in
     let lengths = passed-lengths a.setup x l in
     let z = lengths.0 in
     let r = start-filled a.setup x (sym c.refusal-refusal.ensures ∙ c.if-refusal-ne-NO_REFUSAL.false) l in record {
