@@ -148,8 +148,8 @@ class Function:
                 more = flat(t.group(1).strip(".").split("."), labels)
                 return t.group(0) if more is None else ".".join([name] + more)
             done = re.sub(r"(?<![\w.'?-])" + re.escape(name) + r"((?:\.[01](?![\w'-]))+)", relabel, done)
-        done = re.sub(r"\bnot-true _ ([\w.+-]+\.)true-raw", r"\1true", done)
-        done = re.sub(r"\bnot-false _ ([\w.+-]+\.)false-raw", r"\1false", done)
+        done = re.sub(r"\bnot-true (?:_|[\w.+-]+) ([\w.+-]+\.)true-raw", r"\1true", done)
+        done = re.sub(r"\bnot-false (?:_|[\w.+-]+) ([\w.+-]+\.)false-raw", r"\1false", done)
         return "\n".join(l for i, l in enumerate(done.split("\n")) if l.strip() or i == 0)
 
     def clauses(self, done, chain):
@@ -189,7 +189,7 @@ def declarations(text):
         if line.startswith("--"):
             comments.append(line)
             continue
-        m = DECL.match(line) if line and not line[0].isspace() else None
+        m = (DECL.match(line) or re.match(r"module ", line)) if line and not line[0].isspace() else None
         if m:
             current = [comments, line]
             comments = []
@@ -303,6 +303,9 @@ def convert(crate, folder, path, names, labels, root):
     answers, invariants, helpers = [], [], []
     for d in decls:
         notes, first, rest = d[0], d[1], d[2:]
+        if first.startswith("module "):
+            helpers.append("\n".join(notes + [first] + rest))
+            continue
         m = DECL.match(first)
         name, kind = m.group(1), m.group(3)
         if "statement M" in kind or kind.startswith("{M : Type"):
@@ -377,8 +380,8 @@ def convert(crate, folder, path, names, labels, root):
     where = f"Rattle.{crate}.proofs.{path}"
     cited, kept = [], []
     for h in helpers:
-        name = next(DECL.match(l).group(1) for l in h.split("\n") if DECL.match(l))
-        if re.search(r"(?<![\w'-])" + re.escape(name) + r"(?![\w'-])", "\n".join(invariants)):
+        name = next((DECL.match(l).group(1) for l in h.split("\n") if DECL.match(l)), "")
+        if name and re.search(r"(?<![\w'-])" + re.escape(name) + r"(?![\w'-])", "\n".join(invariants)):
             line = next(l for l in h.split("\n") if DECL.match(l))
             opened = line if "pub " in line else (line.replace("abbrev ", "abbrev pub ", 1) if line.startswith("abbrev ") else "pub " + line)
             cited.append((name, h.replace(line, opened)))
