@@ -34,7 +34,7 @@ use Rattle.rival_schedule.proofs.Laws.{cheap}
 
 -- what the list of entries has outside
 abbrev pub no-entry : Entry
-no-entry = Complete
+no-entry = Fetch 0 record { 0 = 0 }
 
 -- a pricing that goes on does not stop
 never_both : {y : Bool} → y ≡ true → y ≡ false → ⊥
