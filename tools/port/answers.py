@@ -84,14 +84,14 @@ class Function:
             fields, depth = fields[1:], depth + 1
         if not fields:
             return depth, None
-        if depth >= len(chain):
-            return depth, fields
         head, rest = fields[0], fields[1:]
         if head in ("args", "ranges", "lifetimes", "well_formed", "type_inv", "auto"):
             return depth, fields
         if head in ("requires", "pre"):
             more = flat(rest, self.own[0]) if rest else []
             return depth, ["requires"] + (more if more is not None else rest)
+        if depth >= len(chain):
+            return self.resolve(chain, 0, fields) if chain else (depth, fields)
         for d in range(depth, len(chain)):
             place = chain[d]
             old, new = place[2]
