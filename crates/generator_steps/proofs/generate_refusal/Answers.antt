@@ -1,9 +1,9 @@
 -- The first condition met gives the number.
 use mathlib.Core.Path.{sym, ◌∙◌}
 use native.Mathlib.Omega.{arith}
-use borrow.Author.Tests.{eq-eqb, ne_eqb, le-leb, lt-leb}
+use Rattle.std.proofs.lemmas.Bool.Decides.{nat_tests}
 use Rattle.protocol_types.proofs.Refusals.{code-refuses}
-use Rattle.protocol.specs.Generator.{generate_limit, generate_refusal}
+use Rattle.protocol.specs.Generator.{generate_refusal}
 use Rattle.generator_steps.proofs.generate_refusal.Goals as goal
 
 pub returns-then-refusal-ne-NO_REFUSAL : goal.returns-then-refusal-ne-NO_REFUSAL
@@ -15,22 +15,14 @@ returns-then-refusal-ne-NO_REFUSAL c =
 pub returns-then-seed-eq0 : goal.returns-then-seed-eq0
 unfolding generate_refusal
 returns-then-seed-eq0 c =
-    rw (sym c.refusal-refusal.ensures ∙ c.if-refusal-ne-NO_REFUSAL.false, eq-eqb _ _ c.if-seed-eq0.true)
+    rw (sym c.refusal-refusal.ensures ∙ c.if-refusal-ne-NO_REFUSAL.false) (grind (arith, nat_tests))
 
 pub returns-then-count-gt-LIST_LIMIT : goal.returns-then-count-gt-LIST_LIMIT
 unfolding generate_refusal
 returns-then-count-gt-LIST_LIMIT c =
-    rw (
-      sym c.refusal-refusal.ensures ∙ c.if-refusal-ne-NO_REFUSAL.false,
-      ne_eqb c.args.seed 0 c.if-seed-eq0.false,
-      lt-leb c.args.count generate_limit (omega (arith, c.if-count-gt-LIST_LIMIT.true)),
-    )
+    rw (sym c.refusal-refusal.ensures ∙ c.if-refusal-ne-NO_REFUSAL.false) (grind (arith, nat_tests))
 
 pub returns : goal.returns
 unfolding generate_refusal
 returns c =
-    rw (
-      sym c.refusal-refusal.ensures ∙ c.if-refusal-ne-NO_REFUSAL.false,
-      ne_eqb c.args.seed 0 c.if-seed-eq0.false,
-      le-leb c.args.count generate_limit (omega (arith, c.if-count-gt-LIST_LIMIT.false)),
-    )
+    rw (sym c.refusal-refusal.ensures ∙ c.if-refusal-ne-NO_REFUSAL.false) (grind (arith, nat_tests))
