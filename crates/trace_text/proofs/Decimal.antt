@@ -1,4 +1,4 @@
--- `decimal n` is what `io::decimal` writes of n: the ASCII digits that denote n, with no zero in front.
+-- `decimal n` is what `digits::decimal` writes of n: the ASCII digits that denote n, with no zero in front.
 use Prim.Native.Nat.{ℕ, zero, suc, ◌+◌, ◌-◌, ◌*◌, ◌/◌, ◌%◌, ◌^◌, ◌≤◌, ◌<◌}
 use mathlib.Core.Path.{◌≡◌, refl, sym, ap, ◌∙◌}
 use mathlib.Core.List.{List, [], ◌∷◌, ◌++◌}
@@ -9,7 +9,7 @@ use lib.Dec.{ltb, lit<}
 use lib.ListN.{length, take, get_or, length-append, get_or-append}
 use lib.Seq.{get_or_at}
 use borrow.Author.Tests.{ltb-true, ltb-false, lt-ltb}
-use Rattle.io.specs.Digits.{last_digits, hex_digit_ascii, IsDigitCount}
+use Rattle.trace_text.specs.Digits.{last_digits, hex_digit_ascii, IsDigitCount}
 use Rattle.protocol_types.proofs.Laws.{choice}
 use Rattle.trace_text.specs.Text.{places, number_width, decimal, denoted}
 
@@ -51,7 +51,7 @@ below n h = omega arith
 decimal-fewest : (n : ℕ) → n < 2 ^ 64 → IsDigitCount 10 1 n (places 19 n)
 decimal-fewest n h = places-fewest 19 n (below n h)
 
--- what `io::decimal` writes
+-- what `digits::decimal` writes
 pub decimal-is : (n k : ℕ) (out : List ℕ) → n < 2 ^ 64 → IsDigitCount 10 1 n k → take k out ≡ last_digits 10 k n → take k out ≡ decimal n
 unfolding decimal
 decimal-is n k out h f e = e ∙ ap (λ (j : ℕ). last_digits 10 j n) (only-fewest n k (places 19 n) f (decimal-fewest n h))

@@ -1,3 +1,5 @@
 pub mod Copying
+pub mod Counting
 pub mod Decimal
+pub mod Powers
 pub mod Printed

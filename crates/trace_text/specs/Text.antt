@@ -1,6 +1,6 @@
 -- The bytes that the trace program prints of a report (document 01, "The trace program").
 use Rattle.std.specs.Prelude.{ℕ, zero, suc, ◌+◌, ◌-◌, ◌*◌, ◌/◌, ◌≤◌, ◌≡◌, cond, List, [], ◌∷◌, ◌++◌, ltb, length, take}
-use Rattle.io.specs.Digits.{last_digits}
+use Rattle.trace_text.specs.Digits.{last_digits}
 use Rattle.protocol.specs.Accounts.{cycles_of}
 use Rattle.protocol_types.specs.declared.Account.{Account}
 use Rattle.trace_din.specs.Lines.{newline}

@@ -2,9 +2,11 @@
 #![tactic(auto)]
 
 ghost use Rattle.std.specs.Prelude.{◌≡◌, ◌+◌, ◌≤◌, length, take};
-ghost use Rattle.io.specs.Counts.{IsPrefixLen};
+ghost use Rattle.trace_text.specs.Digits.{IsPrefixLen};
 ghost use Rattle.protocol.specs.Accounts.{cycles_of};
 ghost use Rattle.trace_text.specs.Text.{number_width, decimal, field, line, account_lines, text, field_width, line_width, account_width, text_width, Appended};
+
+mod digits;
 
 use protocol_types::Account;
 use trace_lines::Report;
@@ -35,7 +37,7 @@ fn put_number(number: u64, out: &mut [u8; TEXT_WIDTH], at: usize) -> usize
     ensures { Appended out.old at (decimal number) out.new result number_width }
 {
     let mut digits = [0u8; NUMBER_WIDTH];
-    let count = io::decimal(number, &mut digits);
+    let count = digits::decimal(number, &mut digits);
     put(&digits[..count], out, at)
 }
 

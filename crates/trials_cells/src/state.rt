@@ -4,7 +4,6 @@ ghost use Rattle.trials_cells.specs.Cells.{summed, cell, with};
 ghost use Rattle.trials_cells.specs.State.{following, drawn, roll, added, count_place, judged, totalled};
 
 use crate::cells::{Cells, get, less, put, remainder, sum};
-use libc::STDOUT_FILENO;
 
 pub const STATE: u32 = 0;
 
@@ -138,44 +137,49 @@ pub fn count_place(kind: u32, number: u32) -> u32
     sum(COUNTS, kind % KINDS * NUMBERS + number % NUMBERS)
 }
 
-fn print(text: &[u8], number: u32) {
-    io::write_all(STDOUT_FILENO, text);
-    io::print_decimal(STDOUT_FILENO, number as u64);
+// What is not taken by standard output is lost, here and below.
+fn print_text(rt: &impl Print, text: &[u8]) {
+    let _ = rt.write_all(text);
 }
 
-fn print_line(text: &[u8], number: u32) {
-    print(text, number);
-    io::write_all(STDOUT_FILENO, b"\n");
+fn print(rt: &impl Print, text: &[u8], number: u32) {
+    print_text(rt, text);
+    let _ = rt.print(number);
+}
+
+fn print_line(rt: &impl Print, text: &[u8], number: u32) {
+    print(rt, text, number);
+    print_text(rt, b"\n");
 }
 
 // Prints a difference, by the numbers of its kind and of what differs.
-fn print_difference(cells: &Cells, kind: u32, case: u32, what: u32) {
+fn print_difference(rt: &impl Print, cells: &Cells, kind: u32, case: u32, what: u32) {
     if get(cells, STATE, DIFFERENCES) > PRINTED {
         return;
     }
-    print(b"kind ", kind);
-    print(b" case ", case);
-    print(b" seed ", get(cells, STATE, SEED));
-    print_line(b" differs in ", what);
+    print(rt, b"kind ", kind);
+    print(rt, b" case ", case);
+    print(rt, b" seed ", get(cells, STATE, SEED));
+    print_line(rt, b" differs in ", what);
 }
 
 // A trial that differed from the model in `what`, 0 if in nothing.
-pub fn judge(cells: &mut Cells, kind: u32, case: u32, what: u32)
+pub fn judge(rt: &impl Print, cells: &mut Cells, kind: u32, case: u32, what: u32)
     ensures { cells.new ≡ judged cells.old what }
 {
     if what == 0 {
         return;
     }
     add(cells, DIFFERENCES, 1);
-    print_difference(cells, kind, case, what);
+    print_difference(rt, cells, kind, case, what);
 }
 
 // A trial of a kind ended in this number, and differed from the model in `what`, 0 if in nothing.
-pub fn record(cells: &mut Cells, kind: u32, case: u32, number: u32, what: u32)
+pub fn record(rt: &impl Print, cells: &mut Cells, kind: u32, case: u32, number: u32, what: u32)
     ensures { cells.new ≡ judged (added cells.old (count_place kind number) 1) what }
 {
     add(cells, count_place(kind, number), 1);
-    judge(cells, kind, case, what);
+    judge(rt, cells, kind, case, what);
 }
 
 // How many trials of a kind ended in a number.
@@ -198,47 +202,47 @@ fn total(cells: &Cells, kind: u32) -> u32
     all
 }
 
-fn print_count(name: &[u8], number: u32, count: u32) {
+fn print_count(rt: &impl Print, name: &[u8], number: u32, count: u32) {
     if count == 0 {
         return;
     }
-    io::write_all(STDOUT_FILENO, name);
-    print(b" ", number);
-    print_line(b": ", count);
+    print_text(rt, name);
+    print(rt, b" ", number);
+    print_line(rt, b": ", count);
 }
 
-fn print_counts(cells: &Cells, kind: u32, name: &[u8]) {
+fn print_counts(rt: &impl Print, cells: &Cells, kind: u32, name: &[u8]) {
     let mut number = 0;
     while number < NUMBERS {
-        print_count(name, number, counted(cells, kind, number));
+        print_count(rt, name, number, counted(cells, kind, number));
         number += 1;
     }
 }
 
 // Prints how many trials of a kind there were: that number.
-pub fn print_cases(cells: &Cells, kind: u32, name: &[u8]) -> u32
+pub fn print_cases(rt: &impl Print, cells: &Cells, kind: u32, name: &[u8]) -> u32
     ensures { result ≡ totalled cells.now kind 32 }
 {
     let all = total(cells, kind);
-    io::write_all(STDOUT_FILENO, name);
-    print_line(b" cases ", all);
+    print_text(rt, name);
+    print_line(rt, b" cases ", all);
     all
 }
 
 // The same, and how many ended in each number.
-pub fn print_kind(cells: &Cells, kind: u32, name: &[u8]) -> u32
+pub fn print_kind(rt: &impl Print, cells: &Cells, kind: u32, name: &[u8]) -> u32
     ensures { result ≡ totalled cells.now kind 32 }
 {
-    let all = print_cases(cells, kind, name);
-    print_counts(cells, kind, name);
+    let all = print_cases(rt, cells, kind, name);
+    print_counts(rt, cells, kind, name);
     all
 }
 
 // Prints a cell of the state after a text: its number.
-pub fn print_cell(cells: &Cells, text: &[u8], place: u32) -> u32
+pub fn print_cell(rt: &impl Print, cells: &Cells, text: &[u8], place: u32) -> u32
     ensures { result ≡ cell cells.now 0 place }
 {
     let number = get(cells, STATE, place);
-    print_line(text, number);
+    print_line(rt, text, number);
     number
 }

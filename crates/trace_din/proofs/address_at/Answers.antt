@@ -1,6 +1,6 @@
 -- As `blanks_end`, for hexadecimal digits, with their number kept: what is left to shift in from the place reached on gives the whole. A turn is `leads`, the end `leads-end` or `leads-not` (Leading).
-use Prim.Native.Nat.{ℕ, ◌+◌, ◌-◌, ◌≤◌}
-use mathlib.Core.Path.{◌≡◌, refl, sym, ap, ◌∙◌}
+use Prim.Native.Nat.{ℕ, ◌+◌}
+use mathlib.Core.Path.{refl, sym, ap, ◌∙◌}
 use native.Mathlib.Omega.{arith}
 use lib.ListN.{length, drop}
 use Rattle.trace_din.specs.Lines.{is_hex, leading}

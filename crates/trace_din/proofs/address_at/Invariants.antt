@@ -1,10 +1,8 @@
-use Prim.Native.Nat.{ℕ, ◌+◌, ◌-◌, ◌≤◌}
-use mathlib.Core.Path.{◌≡◌, refl, sym, ap, ◌∙◌}
-use native.Mathlib.Omega.{arith}
+use Prim.Native.Nat.{◌+◌, ◌-◌, ◌≤◌}
+use mathlib.Core.Path.{◌≡◌}
 use lib.ListN.{length, drop}
 use Rattle.trace_din.specs.Lines.{is_hex, leading}
-use Rattle.trace_din.specs.Digits.{shifted, shifted_all}
-use Rattle.trace_din.proofs.Leading.{leads, leads-not, leads-end, is-hex, not-hex}
+use Rattle.trace_din.specs.Digits.{shifted_all}
 use Rattle.trace_din.proofs.address_at.Given as goal
 
 abbrev pub invariant-loop-i : goal.invariant-loop-i

@@ -1,10 +1,9 @@
 -- A loop over the leading bytes that pass: from the place reached on they end where they end from the start on. A turn is `leads`, the end `leads-end` or `leads-not` (Leading).
-use Prim.Native.Nat.{◌+◌, ◌-◌, ◌≤◌}
-use mathlib.Core.Path.{◌≡◌, refl, sym, ap, ◌∙◌}
+use mathlib.Core.Path.{refl, sym, ap, ◌∙◌}
 use native.Mathlib.Omega.{arith}
-use lib.ListN.{length, drop}
+use lib.ListN.{length}
 use borrow.Author.Tests.{not-true, not-false}
-use Rattle.trace_din.specs.Lines.{is_blank, leading}
+use Rattle.trace_din.specs.Lines.{is_blank}
 use Rattle.trace_din.proofs.Leading.{leads, leads-not, leads-end}
 use Rattle.std.proofs.Common.{rules}
 use Rattle.trace_din.proofs.blanks_end.Goals as goal

@@ -1,10 +1,7 @@
 use Prim.Native.Nat.{◌+◌, ◌-◌, ◌≤◌}
-use mathlib.Core.Path.{◌≡◌, refl, sym, ap, ◌∙◌}
-use native.Mathlib.Omega.{arith}
+use mathlib.Core.Path.{◌≡◌}
 use lib.ListN.{length, drop}
-use borrow.Author.Tests.{not-true, not-false}
 use Rattle.trace_din.specs.Lines.{is_blank, leading}
-use Rattle.trace_din.proofs.Leading.{leads, leads-not, leads-end}
 use Rattle.trace_din.proofs.blanks_end.Given as goal
 
 abbrev pub invariant-loop-i : goal.invariant-loop-i

@@ -1,9 +1,8 @@
 -- As `blanks_end`, for bytes that are no newline: a turn is `leads`, the end `leads-end` or `leads-not` (Leading).
-use Prim.Native.Nat.{◌+◌, ◌-◌, ◌≤◌}
-use mathlib.Core.Path.{◌≡◌, refl, ap}
+use mathlib.Core.Path.{refl, ap}
 use native.Mathlib.Omega.{arith}
-use lib.ListN.{length, drop}
-use Rattle.trace_din.specs.Lines.{is_text, leading}
+use lib.ListN.{length}
+use Rattle.trace_din.specs.Lines.{is_text}
 use Rattle.trace_din.proofs.Leading.{leads, leads-not, leads-end, is-text, not-text}
 use Rattle.std.proofs.Common.{rules}
 use Rattle.trace_din.proofs.line_end.Goals as goal
