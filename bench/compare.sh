@@ -6,7 +6,7 @@ set -eu
 cd "$(dirname "$0")/.."
 out=target/bench
 mkdir -p "$out"
-rt check buscount > /dev/null
+tools/build.sh buscount > /dev/null
 gcc -O3 -o "$out/c" bench/buscount.c
 python3 bench/compare.py target/bin/buscount "$out/c" "${TRACES:-1000}"
 

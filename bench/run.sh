@@ -8,7 +8,7 @@ cd "$(dirname "$0")/.."
 runs=${RUNS:-60}
 out=target/bench
 mkdir -p "$out"
-rt check buscount > /dev/null
+tools/build.sh buscount > /dev/null
 gcc -O3 -o "$out/c" bench/buscount.c
 rustc -O -o "$out/rust" bench/buscount.rs
 fpc -O3 -o"$out/pascal" bench/buscount.pas > /dev/null

@@ -4,7 +4,7 @@
 # each (default 15).
 set -eu
 cd "$(dirname "$0")/.."
-rt staticlib host > /dev/null
+tools/build.sh host > /dev/null
 export CUZKELOR_LIB="$PWD/target/staticlib" CARGO_TARGET_DIR="$PWD/target/hostkit"
 # With more units than one, code elsewhere in the bench decides what is taken inline into the plain engine.
 export CARGO_PROFILE_RELEASE_CODEGEN_UNITS=1

@@ -1,7 +1,7 @@
 /* Cuzkelor for C and C++: direct-mapped snoopy caches with their bus cycles, the price of rival schedules, the best
  * schedule for a short list of requests, and lists of requests drawn from a seed.
  *
- * Link libhost.a, which `rt staticlib host` writes for x86-64 Linux. It needs the C library's memory functions (today
+ * Link libhost.a, which `tools/build.sh host` writes for x86-64 Linux. It needs the C library's memory functions (today
  * memset alone) and no other library, allocates nothing, prints nothing and keeps no state. hostkit/c/example.c is a
  * whole program with its command. Here are first the numbers, then what the archive exports, then the same over
  * structs.
@@ -32,7 +32,7 @@ extern "C" {
 /* ---- Numbers ---- */
 
 /* The version of what the archive exports and of what it means. */
-#define CUZKELOR_VERSION 7
+#define CUZKELOR_VERSION 6
 
 /* Why something is refused: name, number, what is refused, the condition in words.
  *

@@ -2,7 +2,7 @@
 # Proves and writes the archive, then tests it from C, C++ and Rust. Needs rt, gcc, g++ and cargo.
 set -eu
 cd "$(dirname "$0")/.."
-rt staticlib host
+tools/build.sh host
 export CUZKELOR_LIB="$PWD/target/staticlib" CARGO_TARGET_DIR="$PWD/target/hostkit"
 archive="$CUZKELOR_LIB/libhost.a"
 out="$CARGO_TARGET_DIR"

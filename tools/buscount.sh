@@ -54,7 +54,7 @@ esac
 [ $# -le 1 ] || fail "one trace at a time; try --help"
 
 named=${BUSCOUNT:-$(dirname "$(readlink -f "$0")")/../target/bin/buscount}
-program=$(type -P "$named") || fail "there is no program $named; 'rt check buscount' makes it"
+program=$(type -P "$named") || fail "there is no program $named; 'tools/build.sh buscount' makes it"
 if [ $# = 1 ]; then
     { exec < "$1"; } 2> /dev/null || fail "$1 cannot be opened"
 fi

@@ -1,6 +1,6 @@
 #!/usr/bin/env bash
 # Tries tools/buscount.sh: each exit status, what it says, and that the report is buscount's own, byte by byte.
-# Needs target/bin/buscount ('rt check buscount' makes it) and python3. Prints 'N passed'; a case that fails is named.
+# Needs target/bin/buscount ('tools/build.sh buscount' makes it) and python3. Prints 'N passed'; a case that fails is named.
 set -u
 unset BUSCOUNT
 cd "$(dirname "$0")/.."

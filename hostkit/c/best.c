@@ -1,7 +1,7 @@
 /* How far the engine is from the best: reads a din trace of at most 24 lines on two processors, and prints what the
  * engine spends on it, and the best schedule that was found, entry by entry.
  *
- * In the project's folder, after `rt staticlib host`:
+ * In the project's folder, after `tools/build.sh host`:
  *
  *     gcc -std=c99 -O2 -I hostkit -o target/best hostkit/c/best.c target/staticlib/libhost.a
  *     target/best 2 2 4 4 3 < hostkit/c/best.din

@@ -1,7 +1,7 @@
 /* A board of four processors: requests and what they cost, a look into a cache, a rival's schedule and its price. The
  * bus is a pipelined one, which charges the address cycle: a fetch of four words costs 5 cycles, a write-back 4.
  *
- * In the project's folder, after `rt staticlib host`:
+ * In the project's folder, after `tools/build.sh host`:
  *
  *     gcc -std=c99 -O2 -I hostkit -o target/example hostkit/c/example.c target/staticlib/libhost.a
  *

@@ -971,7 +971,7 @@ static void a_trace_refused_at_once(void) {
 }
 
 static void version(void) {
-    check(cuzkelor_version() == 7 && CUZKELOR_VERSION == 7, "version 7");
+    check(cuzkelor_version() == 6 && CUZKELOR_VERSION == 6, "version 6");
     check(cuzkelor_version_matches(), "the archive belongs to the header");
 }
 

@@ -5,9 +5,9 @@ use std::path::{Path, PathBuf};
 
 pub const LIBRARY: &str = "libhost.a";
 pub const VARIABLE: &str = "CUZKELOR_LIB";
-const COMMAND: &str = "rt staticlib host";
+const COMMAND: &str = "tools/build.sh host";
 
-/// `rt staticlib` writes for one target.
+/// `tools/build.sh` writes for one target.
 pub fn check_target(target: &str, architecture: &str, system: &str) -> Result<(), String> {
     if (architecture, system) == ("x86_64", "linux") {
         return Ok(());
@@ -18,7 +18,7 @@ pub fn check_target(target: &str, architecture: &str, system: &str) -> Result<()
     ))
 }
 
-/// The folder of the archive: the one that is named, or where `rt staticlib` writes in the project.
+/// The folder of the archive: the one that is named, or where `tools/build.sh` writes in the project.
 pub fn folder(project: &Path, named: Option<&Path>, has_rt: bool) -> Result<PathBuf, String> {
     let folder = named.map_or(project.join("target/staticlib"), Path::to_owned);
     if folder.join(LIBRARY).is_file() {

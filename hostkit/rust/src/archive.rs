@@ -16,7 +16,7 @@ pub fn check_version() {
 fn other_version(version: u32) -> String {
     format!(
         "libhost.a has version {version} and this crate is for version {}: \
-         link the archive that `rt staticlib host` writes from the same sources",
+         link the archive that `tools/build.sh host` writes from the same sources",
         raw::CUZKELOR_VERSION
     )
 }
@@ -51,8 +51,8 @@ mod tests {
     fn another_version() {
         assert_eq!(
             super::other_version(1),
-            "libhost.a has version 1 and this crate is for version 7: \
-             link the archive that `rt staticlib host` writes from the same sources"
+            "libhost.a has version 1 and this crate is for version 6: \
+             link the archive that `tools/build.sh host` writes from the same sources"
         );
     }
 }

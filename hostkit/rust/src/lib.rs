@@ -29,7 +29,7 @@
 //!
 //! # Building
 //!
-//! `rt staticlib host` writes the archive, for x86-64 Linux, to the project's `target/staticlib`.
+//! `tools/build.sh host` writes the archive, for x86-64 Linux, to the project's `target/staticlib`.
 //! `CUZKELOR_LIB` names another folder of it.
 //!
 //! # Panics

@@ -17,7 +17,7 @@ fn missing(named: Option<&str>, has_rt: bool) -> String {
 fn no_archive() {
     assert_eq!(
         missing(None, true),
-        "no libhost.a in /nowhere/target/staticlib: run `rt staticlib host` in /nowhere, \
+        "no libhost.a in /nowhere/target/staticlib: run `tools/build.sh host` in /nowhere, \
          or set CUZKELOR_LIB to the folder of a libhost.a"
     );
 }
@@ -27,7 +27,7 @@ fn no_archive_and_no_toolchain() {
     assert_eq!(
         missing(None, false),
         "no libhost.a in /nowhere/target/staticlib: `rt`, the Rattle toolchain that proves and writes it, \
-         is not on PATH: install it and run `rt staticlib host` in /nowhere, \
+         is not on PATH: install it and run `tools/build.sh host` in /nowhere, \
          or set CUZKELOR_LIB to the folder of a libhost.a"
     );
     assert!(archive::on_path("cargo") && !archive::on_path("no such program"));
