@@ -1,5 +1,5 @@
 -- What the trials keep in the first cells: the random generator, the generator as a case began, and counts.
-use Rattle.std.specs.Prelude.{ℕ, zero, suc, ◌+◌, ◌-◌, ◌*◌, ◌%◌, cond, List, ◌==◌}
+use Rattle.std.specs.Prelude.{ℕ, zero, suc, ◌+◌, ◌*◌, ◌%◌, cond, List, ◌==◌}
 use Rattle.trials_cells.specs.Cells.{summed, reduced, cell, with}
 
 -- Lehmer's generator modulo 2³¹ − 1: the number after s
