@@ -358,7 +358,7 @@ def convert(crate, folder, path, names, labels, root):
         new = needs[i][1]
         chain = fn.chain(names["asked_at"][i][0])
         whole = "\n".join(body)
-        mm = re.match(re.escape(name) + r"((?: (?:" + WORD + r"|\([^)]*\)))*)\s*=", whole)
+        mm = re.match(re.escape(name) + r"((?: (?:[^\s(){}.;,=]+|\([^)]*\)))*)\s*=", whole)
         if not mm:
             fn.left.append(f"{path}: {name} has no plain clause")
             answers.append("\n".join(notes + [f"pub {new} : goal.{new}"] + unfolding + body))
