@@ -1,20 +1,19 @@
 -- Laws of entries played one after another.
-use Prim.Native.Nat.{ℕ, zero, suc, ◌+◌, ◌-◌, ◌*◌, ◌/◌, ◌%◌, ◌≤◌, ◌<◌}
+use Prim.Native.Nat.{ℕ, suc, ◌+◌, ◌*◌, ◌/◌, ◌%◌, ◌≤◌, ◌<◌}
 use mathlib.Core.Path.{◌≡◌, refl, sym, ap, ◌∙◌}
-use mathlib.Core.Bool.{Bool, true, false, not, ◌&&◌, cond}
+use mathlib.Core.Bool.{Bool, true, not, ◌&&◌}
 use mathlib.Core.List.{List, [], ◌∷◌, ◌++◌}
 use native.Mathlib.Omega.{arith}
-use native.Mathlib.Numerals.{add-one}
-use lib.ListN.{length, set, drop, length-set, length-append}
-use lib.Seq.{sets, sets-eq, length-sets, drop-cons}
+use lib.ListN.{length, set, length-set, length-append}
+use lib.Seq.{sets}
 use lib.Dec.{ltb, eqb}
-use borrow.Author.Tests.{eq-eqb, ne_eqb, lt-ltb}
+use borrow.Author.Tests.{eq-eqb, lt-ltb}
 use Rattle.protocol_types.specs.Lists.{at}
-use Rattle.protocol_types.specs.Board.{Fits, fetch_price, write_back_price}
+use Rattle.protocol_types.specs.Board.{Fits}
 use Rattle.protocol_types.specs.declared.Setup.{Setup}
 use Rattle.protocol_types.proofs.Laws.{choice}
 use Rattle.best_search.specs.Search.{Graph, walk, total, forward}
-use Rattle.best_positions.specs.Position.{has, digit, served_of, with_digit, moved_state, dropped_state, written_back_state, fetched_state, move_price, completed_state, completed, completion_price, moving_processor, moved_block, is_drop, entry_number, next_at, price_at, board}
+use Rattle.best_positions.specs.Position.{has, digit, served_of, moved_state, dropped_state, written_back_state, fetched_state, move_price, completed_state, completed, completion_price, moving_processor, moved_block, is_drop, entry_number, next_at, price_at, board}
 use Rattle.best_positions.proofs.Coding.{served-with, digit_lt}
 use Rattle.best_own_parts.specs.Codes.{move_code, drop_code, complete_code}
 use Rattle.best_own_parts.specs.Playing.{Ready, Played, Moved}

@@ -5,7 +5,7 @@ use mathlib.Core.Logic.{◌≢◌}
 use mathlib.Core.Bool.{Bool, true, false, cond}
 use mathlib.Core.List.{List, [], ◌∷◌, ◌++◌}
 use native.Mathlib.Omega.{arith}
-use lib.ListN.{length, set, take, drop, length-set, take-append-drop}
+use lib.ListN.{length, set, take, drop, take-append-drop}
 use lib.Dec.{eqb, leb}
 use borrow.Author.Tests.{eq-eqb, ne_eqb}
 use Rattle.protocol_types.specs.Lists.{at}
@@ -14,7 +14,7 @@ use Rattle.best_search.specs.Search.{Graph, State, size, trail, forward, route, 
 use Rattle.best_search.proofs.Answer.{best}
 use Rattle.best_positions.specs.Position.{entry_number, board}
 use Rattle.best_positions.specs.Best.{way_back}
-use Rattle.best_positions.proofs.Schedules.{size_is, codes-is, closed-asks}
+use Rattle.best_positions.proofs.Schedules.{size_is, closed-asks}
 use Rattle.best_tries.specs.declared.Progress.{Progress}
 use Rattle.best_tries.specs.Progress.{state_at}
 use Rattle.best_way.specs.Hops.{hops}

@@ -1,0 +1,24 @@
+-- A hit needs no entry.
+use mathlib.Core.Path.{◌∙◌, sym}
+use native.Mathlib.Omega.{arith}
+use Rattle.protocol_types.specs.Board.{line_of}
+use Rattle.best_own_parts.specs.Codes.{obtaining_codes}
+use Rattle.best_own_parts.proofs.Moves.{moved_none, moved_on, ready-less, ready_on}
+use Rattle.best_own_parts.proofs.obtain.Goals as goal
+
+pub returns-then-holds_block : goal.returns-then-holds_block
+unfolding obtaining_codes
+returns-then-holds_block c = let a = c.args in rw (sym c.holds_block.ensures ∙ c.if-holds_block.true) (moved_none a.setup a.asks.now 3 64 a.a a.numbers.now)
+
+pub line_of-line-requires : goal.line_of-line-requires
+line_of-line-requires c = (c.requires.0.fits.some-line, c.requires.0.fits.few-lines)
+
+pub evict-z-requires : goal.evict-z-requires
+evict-z-requires c = (ready-less c.requires.0 2 (omega arith), c.requires.1)
+
+pub play_move-requires : goal.play_move-requires
+play_move-requires c = (ready_on c.requires.0 c.evict-z.ensures 1 (omega arith) (omega arith) (omega (arith, c.evict-z.ensures.layer, c.requires.0.position)), c.requires.1, c.requires.2)
+
+pub returns : goal.returns
+unfolding obtaining_codes line_of
+returns c = let a = c.args in rw (sym c.holds_block.ensures ∙ c.if-holds_block.false, ← c.line_of-line.ensures) (moved_on c.evict-z.ensures c.play_move.ensures)
