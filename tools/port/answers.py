@@ -148,6 +148,13 @@ class Function:
                 more = flat(t.group(1).strip(".").split("."), labels)
                 return t.group(0) if more is None else ".".join([name] + more)
             done = re.sub(r"(?<![\w.'?-])" + re.escape(name) + r"((?:\.[01](?![\w'-]))+)", relabel, done)
+        # A call by a name of its own: `let k = c.STEP in .. k.new.1.1.0 ..`
+        for m in list(re.finditer(r"let (" + WORD + r") = c\.(" + WORD + r") in\b", done)):
+            place = next((p for p in chain if p[2][1] == m.group(2)), None)
+            params = self.names["params"].get(place[3]) if place and place[3] else None
+            if params:
+                done = re.sub(r"(?<![\w.'?-])" + re.escape(m.group(1)) + r"\.new((?:\.1)*)\.0",
+                              lambda t: f"{m.group(1)}.new.{params[len(t.group(1)) // 2]}", done)
         done = re.sub(r"\bnot-true (?:_|[\w.+-]+) ([\w.+-]+\.)true-raw", r"\1true", done)
         done = re.sub(r"\bnot-false (?:_|[\w.+-]+) ([\w.+-]+\.)false-raw", r"\1false", done)
         return "\n".join(l for i, l in enumerate(done.split("\n")) if l.strip() or i == 0)

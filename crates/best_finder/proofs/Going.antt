@@ -1,14 +1,14 @@
 -- What the search's loop keeps.
-use Prim.Native.Nat.{ℕ, zero, suc, ◌+◌, ◌*◌, ◌≤◌, ◌<◌}
+use Prim.Native.Nat.{ℕ, ◌+◌, ◌*◌, ◌≤◌, ◌<◌}
 use mathlib.Core.Path.{◌≡◌, refl, sym, ap, ◌∙◌, subst}
-use mathlib.Core.Bool.{Bool, true, false}
-use mathlib.Core.List.{List, [], ◌∷◌}
+use mathlib.Core.Bool.{true, false}
+use mathlib.Core.List.{List, []}
 use native.Mathlib.Omega.{arith}
 use lib.ListN.{length}
 use Rattle.protocol_types.specs.Lists.{at}
 use Rattle.protocol_types.specs.declared.Setup.{Setup}
 use Rattle.best_search.specs.Search.{Graph, size, State, Tried, initial, halts, tick, searched}
-use Rattle.best_search.proofs.Machine.{Closed, Inv}
+use Rattle.best_search.proofs.Machine.{Closed}
 use Rattle.best_search.proofs.Loop.{fuel, Kept, kept-start, kept_on, kept-end, fuel-falls, near-start, tick-near, some-halts, next-open}
 use Rattle.best_positions.specs.Position.{board}
 use Rattle.best_positions.proofs.Schedules.{codes-is, size_is, closed-asks}

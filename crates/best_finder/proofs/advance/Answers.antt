@@ -1,11 +1,10 @@
 -- A move is a try, a passed entry or a settled position, as the search defines it.
-use mathlib.Core.Path.{◌≡◌, refl, sym, ap, ◌∙◌}
-use mathlib.Core.Bool.{true, false}
+use mathlib.Core.Path.{refl, sym, ap, ◌∙◌}
 use mathlib.Core.List.{List, ◌∷◌}
 use native.Mathlib.Omega.{arith}
 use lib.ListN.{length}
 use Rattle.protocol_types.proofs.Laws.{failed, passed}
-use Rattle.best_search.specs.Search.{Graph, State, Tried, past, relaxed, closed, onward}
+use Rattle.best_search.specs.Search.{Tried, past, relaxed, closed, onward}
 use Rattle.best_positions.specs.Position.{board, served_of}
 use Rattle.best_positions.proofs.Schedules.{next-lt}
 use Rattle.best_tries.specs.Progress.{state_at}
@@ -22,8 +21,8 @@ returns-then-k-ge18 c =
     let v = a.predecessors.now in
     let k = c.settle_current in (
       λ ts l. let t = state_at d o v a.p ts in
-          moved_by g t (onward g (closed t)) d k.new.1.1.0 v k.result (tick-settle a.setup a.asks.now t c.if-k-ge18.true)
-          (ap (λ us. state_at d k.new.1.1.0 v k.result us) (onward-tries g t) ∙ k.ensures.0 a.setup a.asks.now v ts) (ap length (onward-tries g t) ∙ l ∙ sym k.ensures.1),
+          moved_by g t (onward g (closed t)) d k.new.order v k.result (tick-settle a.setup a.asks.now t c.if-k-ge18.true)
+          (ap (λ us. state_at d k.new.order v k.result us) (onward-tries g t) ∙ k.ensures.0 a.setup a.asks.now v ts) (ap length (onward-tries g t) ∙ l ∙ sym k.ensures.1),
       k.ensures.2,
     )
 
@@ -72,8 +71,8 @@ returns c =
     let legal = passed c.legal_at.ensures c.if-not-legal_at.false-raw in (
       λ ts l. let t = state_at d o v a.p ts in
           let us : List Tried = record { position = a.p.current; code = a.p.code } ∷ ts in
-          moved_by g t (past (relaxed g t) us) k.new.1.1.1.1.0 o k.new.1.1.1.1.1.0 k.result (tick-try a.setup a.asks.now t c.if-k-ge18.false legal)
-          (ap (λ xs. state_at k.new.1.1.1.1.0 o k.new.1.1.1.1.1.0 k.result xs) (past-tries (relaxed g t) us)
+          moved_by g t (past (relaxed g t) us) k.new.distances o k.new.predecessors k.result (tick-try a.setup a.asks.now t c.if-k-ge18.false legal)
+          (ap (λ xs. state_at k.new.distances o k.new.predecessors k.result xs) (past-tries (relaxed g t) us)
           ∙ k.ensures.0 g refl c.next_at-w.ensures c.price_at-price.ensures.0 refl o ts us) (ap length (past-tries (relaxed g t) us) ∙ omega (arith, l, k.ensures.1)),
       k.ensures.2 o
           (open-there g d o a.p.current a.p.code c.next_at-w.result c.price_at-price.result c.next_at-w.ensures c.price_at-price.ensures.0 legal z.11) z.12,

@@ -1,6 +1,6 @@
 -- Cleared tables are where the search starts.
-use mathlib.Core.Path.{◌≡◌, refl, sym, ap, ◌∙◌}
-use lib.ListN.{length, set, length-set, length-replicate}
+use mathlib.Core.Path.{refl, sym, ap, ◌∙◌}
+use lib.ListN.{length, set}
 use Rattle.protocol_types.specs.Lists.{zeros}
 use Rattle.best_search.specs.Search.{initial, size}
 use Rattle.best_positions.specs.Position.{board}

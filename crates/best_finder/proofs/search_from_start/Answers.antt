@@ -1,14 +1,9 @@
 -- The loop keeps the search as it was defined, and the table; each turn takes one off what is left of the fuel.
-use mathlib.Core.Path.{◌≡◌, refl, sym, ap, ◌∙◌}
-use mathlib.Core.List.{List, []}
+use mathlib.Core.Path.{sym, ap, ◌∙◌}
 use native.Mathlib.Omega.{arith}
 use lib.ListN.{length}
-use Rattle.best_search.proofs.Loop.{fuel}
-use Rattle.best_positions.specs.Position.{board}
-use Rattle.best_lowest.specs.Lowest.{lowest_of}
 use Rattle.best_lowest.proofs.Lowest.{groups-length}
-use Rattle.best_tries.specs.Progress.{state_at}
-use Rattle.best_finder.proofs.Going.{Going, going_start, going-ready, going_on_lem, going-falls, going_end, lengths, same-lengths}
+use Rattle.best_finder.proofs.Going.{going_start, going-ready, going_on_lem, going-falls, going_end, lengths, same-lengths}
 use Rattle.best_finder.proofs.search_from_start.Goals as goal
 
 pub loop-setup-init : goal.loop-setup-init
@@ -54,7 +49,7 @@ loop-setup-smaller c =
     let e = sym (c.halted.ensures q.distances q.order q.predecessors w.tries w.count) ∙ c.if-halted.false in
     let v = c.advance-p in
     going-falls a.setup a.asks.now a.steps a.own q.distances q.order q.predecessors q.p w e
-    v.new.1.1.1.0 v.new.1.1.1.1.0 v.new.1.1.1.1.1.0 v.result (v.ensures.0 w.tries w.count)
+    v.new.distances v.new.order v.new.predecessors v.result (v.ensures.0 w.tries w.count)
 
 pub loop-setup-preserved : goal.loop-setup-preserved
 loop-setup-preserved c =
@@ -65,7 +60,7 @@ loop-setup-preserved c =
     let e = sym (c.halted.ensures q.distances q.order q.predecessors w.tries w.count) ∙ c.if-halted.false in
     let v = c.advance-p in (
       going_on_lem a.setup a.asks.now a.steps a.own q.distances q.order q.predecessors q.p w e
-          v.new.1.1.1.0 v.new.1.1.1.1.0 v.new.1.1.1.1.1.0 v.result (v.ensures.0 w.tries w.count),
+          v.new.distances v.new.order v.new.predecessors v.result (v.ensures.0 w.tries w.count),
       v.ensures.1,
     )
 

@@ -1,13 +1,10 @@
-use mathlib.Core.Path.{◌≡◌, refl, sym, ap, ◌∙◌}
-use mathlib.Core.List.{List, []}
-use native.Mathlib.Omega.{arith}
-use lib.ListN.{length}
+use mathlib.Core.Path.{◌≡◌}
+use mathlib.Core.List.{[]}
 use Rattle.best_search.proofs.Loop.{fuel}
 use Rattle.best_positions.specs.Position.{board}
 use Rattle.best_lowest.specs.Lowest.{lowest_of}
-use Rattle.best_lowest.proofs.Lowest.{groups-length}
 use Rattle.best_tries.specs.Progress.{state_at}
-use Rattle.best_finder.proofs.Going.{Going, going_start, going-ready, going_on_lem, going-falls, going_end, lengths, same-lengths}
+use Rattle.best_finder.proofs.Going.{Going}
 use Rattle.best_finder.proofs.search_from_start.Given as goal
 
 abbrev pub invariant-loop-setup : goal.invariant-loop-setup
