@@ -1,6 +1,6 @@
 -- The engine's own actions for two processors and at most four blocks, as entries by number (best_positions/specs/Position): what it does for a request is
 -- told by the position where the request finds it and eight counters. best_own_claims proves that they are `engine_schedule`.
-use Rattle.std.specs.Prelude.{ℕ, ◌+◌, ◌-◌, ◌*◌, ◌/◌, ◌%◌, Bool, ◌&&◌, cond, List, [], ◌∷◌, ◌++◌, set, ltb, eqb}
+use Rattle.std.specs.Prelude.{ℕ, ◌+◌, ◌-◌, ◌*◌, ◌/◌, ◌%◌, ◌&&◌, cond, List, [], ◌∷◌, ◌++◌, set, ltb, eqb}
 use Rattle.protocol_types.specs.Lists.{at, zeros}
 use Rattle.protocol_types.specs.Board.{fetch_price}
 use Rattle.protocol_types.specs.declared.Setup.{Setup}

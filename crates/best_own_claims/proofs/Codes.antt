@@ -1,7 +1,6 @@
 -- What the engine does for a request is told by the position of its copies: its entries by number are `serving_codes`.
 use Prim.Native.Nat.{ℕ, zero, suc, ◌+◌, ◌-◌, ◌*◌, ◌/◌, ◌%◌, ◌≤◌, ◌<◌}
 use mathlib.Core.Path.{◌≡◌, refl, sym, ap, ◌∙◌}
-use mathlib.Core.Logic.{◌≢◌}
 use mathlib.Core.Bool.{Bool, true, false, ◌&&◌, cond}
 use mathlib.Core.List.{List, [], ◌∷◌, ◌++◌}
 use native.Mathlib.Omega.{arith}
@@ -16,7 +15,7 @@ use Rattle.protocol.specs.Soundness.{Sound}
 use Rattle.protocol.specs.Rules.{obtained, payer, cleared}
 use Rattle.protocol.specs.Rival.{Rival, keeps_at, keeps}
 use Rattle.competitive.specs.EngineSchedule.{saving, evicting, obtaining, paying, clearing, serving_by, SameCopies}
-use Rattle.competitive.proofs.Bound.{held, copy}
+use Rattle.competitive.proofs.Bound.{held}
 use Rattle.protocol_types.specs.declared.Setup.{Setup}
 use Rattle.protocol_types.specs.declared.Block.{Block}
 use Rattle.protocol_types.specs.declared.Operation.{Operation}
@@ -24,7 +23,7 @@ use Rattle.protocol_types.specs.declared.Operation.TheVariants.{Read, Write, Cle
 use Rattle.protocol_types.specs.declared.Entry.{Entry}
 use Rattle.protocol_types.specs.declared.Entry.TheVariants.{WriteBack, Drop, Fetch, Complete}
 use Rattle.protocol_types.proofs.Laws.{Under, under, over, under?, Known, sure, not_so, known}
-use Rattle.protocol_types.proofs.Board.{block-path, row-div, row-mod, line_slot-lt, line-lt, slot_lt, block-lt}
+use Rattle.protocol_types.proofs.Board.{row-div, row-mod, line_slot-lt, line-lt, slot_lt, block-lt}
 use Rattle.protocol.proofs.Holding.{true-holds_at}
 use Rattle.best_positions.specs.Position.{block_no, has, digit, number, in_line, asked_by}
 use Rattle.best_positions.proofs.RivalSound.{RivalSound}

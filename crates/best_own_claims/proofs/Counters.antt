@@ -1,17 +1,16 @@
 -- The eight counters are those of the engine's tables, for each block held: each request keeps that.
-use Prim.Native.Nat.{ℕ, zero, suc, ◌+◌, ◌-◌, ◌*◌, ◌/◌, ◌%◌, ◌≤◌, ◌<◌}
+use Prim.Native.Nat.{ℕ, ◌+◌, ◌-◌, ◌≤◌, ◌<◌}
 use mathlib.Core.Path.{◌≡◌, refl, sym, ap, ◌∙◌}
 use mathlib.Core.Logic.{◌≢◌}
-use mathlib.Core.Bool.{Bool, true, false, ◌&&◌, cond, true≢false}
+use mathlib.Core.Bool.{true, cond}
 use mathlib.Core.List.{List}
 use native.Mathlib.Omega.{arith}
 use lib.ListN.{length, set, length-set}
-use lib.Dec.{ltb, eqb}
-use borrow.Author.Tests.{lt-ltb, le-ltb}
+use borrow.Author.Tests.{le-ltb}
 use Rattle.protocol_types.specs.Lists.{at, zeros}
-use Rattle.protocol_types.specs.Board.{Fits, slots, line_slot, slot, line_of, block_of, offset_of, fetch_price}
+use Rattle.protocol_types.specs.Board.{Fits, slots, slot, line_of, block_of, offset_of, fetch_price}
 use Rattle.protocol_types.specs.Conditions.{Named}
-use Rattle.protocol.specs.Tables.{Tables, fresh, counter, block, holds_at, holds, sharing, Sized}
+use Rattle.protocol.specs.Tables.{Tables, fresh, counter, block, holds, sharing, Sized}
 use Rattle.protocol.specs.Soundness.{Sound}
 use Rattle.protocol.specs.Rules.{evicted, fetched, obtained, payer, written_alone, broadcast, charged, written, cleared}
 use Rattle.protocol.specs.Requests.{served_by}
@@ -27,10 +26,10 @@ use Rattle.protocol.proofs.Slots.{refetched-counter-same, refetched-block-same, 
 use Rattle.protocol.proofs.Holding.{holder-slot}
 use Rattle.competitive.proofs.StepSound.{sound-obtained, shared-facts}
 use Rattle.competitive.proofs.Clears.{cleared-zero}
-use Rattle.best_positions.specs.Position.{block_no, has, digit, number, asked_by}
+use Rattle.best_positions.specs.Position.{block_no, number, asked_by}
 use Rattle.best_positions.proofs.RivalSound.{RivalSound}
 use Rattle.best_own.specs.Own.{counter_index, refilled, written_counters, read_counters, served_counters}
-use Rattle.best_own_claims.proofs.Tables.{SameSlot, same-slot, same-slot-on, same-holds_at, obtained-other, obtained-apart, cleared-apart, two-sharing, two-payer}
+use Rattle.best_own_claims.proofs.Tables.{SameSlot, same-slot-on, same-holds_at, obtained-other, obtained-apart, cleared-apart, two-sharing, two-payer}
 use Rattle.best_own_claims.proofs.Codes.{told, sharing-told, read_asked, write-asked}
 
 -- c has the counter of each block held

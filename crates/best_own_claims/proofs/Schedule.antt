@@ -1,11 +1,11 @@
 -- The codes of `own_codes` are the engine's own actions: they spell `engine_schedule`, lawfully, at the engine's cycles.
-use Prim.Native.Nat.{ℕ, zero, suc, ◌+◌, ◌-◌, ◌≤◌, ◌<◌}
+use Prim.Native.Nat.{ℕ, zero, suc, ◌+◌, ◌-◌, ◌≤◌}
 use mathlib.Core.Path.{◌≡◌, refl, sym, ap, ◌∙◌, subst}
 use mathlib.Core.List.{List, [], ◌∷◌, ◌++◌, append_assoc, append-nil}
 use native.Mathlib.Omega.{arith}
 use lib.ListN.{length, drop}
 use Rattle.protocol_types.specs.Lists.{zeros, tail}
-use Rattle.protocol_types.specs.Board.{Fits, slots}
+use Rattle.protocol_types.specs.Board.{Fits}
 use Rattle.protocol_types.specs.Conditions.{Valid, AllValid}
 use Rattle.protocol.specs.Tables.{Tables, fresh}
 use Rattle.protocol.specs.Soundness.{Sound}
@@ -13,7 +13,7 @@ use Rattle.protocol.specs.Accounts.{cycles}
 use Rattle.protocol.specs.Requests.{served}
 use Rattle.protocol.specs.Engines.{served_all}
 use Rattle.protocol.specs.Runs.{engine}
-use Rattle.protocol.specs.Rival.{Rival, no_copies, played, left, refusal, end_refusal, Legal, costs, last_copies}
+use Rattle.protocol.specs.Rival.{Rival, no_copies, played, left, refusal, Legal, last_copies}
 use Rattle.protocol_types.specs.declared.Setup.{Setup}
 use Rattle.protocol_types.specs.declared.Request.{Request}
 use Rattle.protocol_types.specs.declared.Entry.{Entry}
@@ -23,8 +23,8 @@ use Rattle.competitive.specs.EngineSchedule.{serving, engine_schedule, EngineIsR
 use Rattle.competitive.proofs.StepSound.{sound-served}
 use Rattle.competitive.proofs.Fresh.{sound-fresh}
 use Rattle.competitive.proofs.EngineSchedule.{engine-is-rival}
-use Rattle.best_search.specs.Search.{Graph, walk, Lawful, total, forward}
-use Rattle.best_positions.specs.Position.{number, asked, asked_all, entry_of, entry_number, entries_from, next_at, board}
+use Rattle.best_search.specs.Search.{Graph, walk, Lawful, total}
+use Rattle.best_positions.specs.Position.{number, asked, asked_all, entries_from, next_at, board}
 use Rattle.best_positions.specs.Best.{spelled, served_by, engine_cycles}
 use Rattle.best_positions.proofs.RivalSound.{RivalSound, sound-no_copies, sound-played}
 use Rattle.best_positions.proofs.Schedules.{code_of, coded, entry-back, start-number, agrees-of, PathOf, path-of, spelled-numbers}

@@ -1,14 +1,12 @@
 -- Laws of the engine's tables for two processors: what a request leaves of the other slots, and who shares and pays.
-use Prim.Native.Nat.{ℕ, zero, suc, ◌-◌, ◌≤◌, ◌<◌}
-use mathlib.Core.Path.{◌≡◌, refl, sym, ap, ◌∙◌}
+use Prim.Native.Nat.{ℕ, zero, suc, ◌-◌, ◌<◌}
+use mathlib.Core.Path.{◌≡◌, refl, sym, ◌∙◌}
 use mathlib.Core.Logic.{◌≢◌}
-use mathlib.Core.Bool.{Bool, true, false, cond, true≢false}
+use mathlib.Core.Bool.{true, true≢false}
 use native.Mathlib.Omega.{arith}
-use lib.Dec.{ltb, eqb}
-use Rattle.protocol_types.specs.Lists.{at}
 use Rattle.protocol_types.specs.Board.{Fits, line_slot, slot, line_of}
 use Rattle.protocol.specs.Tables.{Tables, counter, block, mark, holds_at, holds, sharing, marked, Sized}
-use Rattle.protocol.specs.Rules.{written_back, emptied, saved, evicted, fetched, obtained, payer, cleared}
+use Rattle.protocol.specs.Rules.{written_back, emptied, saved, evicted, obtained, payer, cleared}
 use Rattle.protocol_types.specs.declared.Setup.{Setup}
 use Rattle.protocol_types.specs.declared.Block.{Block}
 use Rattle.protocol_types.proofs.Laws.{Known, sure, not_so, known, choice, at_set_other}
