@@ -10,7 +10,7 @@ use Prim.Native.Nat.{ℕ, suc}
 use mathlib.Core.List.{List, [], ◌∷◌, map}
 use lib.ListN.{length}
 use seplogic.Ra.Ura.{Ura}
-use seplogic.Ra.TreeShare.{full_share}
+use base.Fraction.{full_share}
 use mir.Syntax.{Lifetime}
 use mir.Val.{Val}
 use base.Logic.{ent, sep, ex, guard}
@@ -71,7 +71,7 @@ module _ (T : Declared) where
   length-tuples [] = refl
   length-tuples (z ∷ zs) = ap suc (length-tuples zs)
 
-  each-tuple : (zs : List T.D) (us : List Val) → shadow (each T.D (row_of T).own zs us) → shadow (each (field T).row.Denot (field T).row.own_val (map T.to zs) us)
+  each-tuple : (zs : List T.D) (us : List Val) → shadow (each T.D (row_of T).own_val zs us) → shadow (each (field T).row.Denot (field T).row.own_val (map T.to zs) us)
   each-tuple [] [] s = s
   each-tuple [] (u ∷ us) s = absurd s
   each-tuple (z ∷ zs) [] s = absurd s

@@ -4,7 +4,7 @@
 --     ref-lends            given Is x vs:  the cell with vs  ⊢ ⇛ ∃ δ. own (the `&ν mut T` δ at x) ∗ RefLoan ν δ
 --     ref-returns          [†ν] ∗ RefLoan ν δ ∗ res δ y  ⊢ ⇛ (⌜Is y (vals y)⌝ ∧ the cell with vals y ∗ [†ν])
 -- A local array of n elements of a plain type, as a slice, by `&ν [T]`:
---     array-shares         given Is xs vs and `Room` of n:  the cell with vs  ⊢ ⇛ ∃ δ. own (the `&ν [T]` δ at xs, of n elements) ∗ Shared ν xs
+--     array-shares         given `Copied`, Is xs vs and `Room` of n:  the cell with vs  ⊢ ⇛ (own (the `&ν [T]` at xs, of n elements) ∗ Shared ν xs)
 --     array-unshares       given that xs has n elements:  [†ν] ∗ Shared ν xs  ⊢ ⇛ (the cell with the elements' values ∗ [†ν])
 -- Assumes `Logic`.
 use mathlib.Core.Path.{◌≡◌, sym, subst}
@@ -12,7 +12,7 @@ use Prim.Native.Nat.{ℕ}
 use mathlib.Core.List.{List, [], ◌∷◌}
 use lib.ListN.{length}
 use seplogic.Ra.Ura.{Ura}
-use seplogic.Ra.TreeShare.{full_share}
+use base.Fraction.{full_share}
 use mir.Syntax.{Lifetime}
 use mir.Val.{Val, vptr}
 use base.Logic.{ent, sep, ex, guard}
@@ -30,16 +30,17 @@ use denote.Array.{Array, array_vals, Array-Tells, Array-Makes}
 use denote.ArrayMemory.{Single, Array-apart, Array-whole}
 use denote.Index.{row, whole_out, whole_in}
 use denote.Lend.{lends_ref, ref_back}
+use denote.Copied.{Copied}
 use denote.Steps.{owned, peeks}
 use denote.Struct.Steps.{spelt}
-use Rattle.walks.proofs.Opening.{at-list, at_value, Cells, Shared, slice-shares, slice-unshares}
+use Rattle.walks.proofs.Opening.{at-shared, at_value, Cells, Shared, slice-shares, slice-unshares}
 
 module _ (R : RattleType) (b o : ℕ) where
   -- a value in memory is a cell and what the value owns
   module _ {M : Type 1} {𝓤 : Ura M} (𝓛 : Logic 𝓤) where
     lies_in : Makes 𝓛 R (Is R) → (x : R.Denot) (vs : List Val) → Is R x vs → ent 𝓤 (sem 𝓛 (cell_at full_share R.mir vs b o)) (sem 𝓛 (part_at R full_share x b o))
     unfolding part_of
-    lies_in mk x vs is = qed 𝓛 (‵ (cell_at full_share R.mir vs b o) ∷ []) ∵ owned ! R (Is R) mk x vs is $ move ! (1 ∷ 0 ∷ []) $ fjoin ! $ fpack ! (List Val) (λ us. fsep (cell_at full_share R.mir us b o) (R.own x us)) vs $ done !
+    lies_in mk x vs is = qed 𝓛 (‵ (cell_at full_share R.mir vs b o) ∷ []) ∵ owned ! R (Is R) mk x vs is $ move ! (1 ∷ 0 ∷ []) $ fjoin ! $ fpack ! (List Val) (λ us. fsep (cell_at full_share R.mir us b o) (R.own_val x us)) vs $ done !
 
     lies_out : (vals : R.Denot → List Val) → Tells R (Is R) vals → (x : R.Denot) → ent 𝓤 (sem 𝓛 (part_at R full_share x b o)) (guard 𝓤 (Is R x (vals x)) (sem 𝓛 (cell_at full_share R.mir (vals x) b o)))
     unfolding part_of
@@ -72,12 +73,12 @@ module _ (R : RattleType) (n b o : ℕ) where
         qed 𝓛 (‵ (cell_at full_share (Array R n).mir vs b o) ∷ []) ∵ use1 𝓛 (‵ (part_at (Array R n) full_share xs b o)) (lies_in (Array R n) b o 𝓛 (Array-Makes 𝓛 R mk n) xs vs is) $
         use1 𝓛 (‵ ((arr_parts (shares R) n).part full_share xs b o)) (Array-apart 𝓛 R full_share one n xs b o) $ fsplit ! $ drop ! $ by ! (whole_in 𝓛 R xs b o)
 
-    pub array-shares : Single R.mir → Makes 𝓛 R (Is R) → (ℓ : Lifetime) (ν : Lft) (xs : List R.Denot) (vs : List Val) → Is (Array R n) xs vs → Room R n
-        → ent 𝓤 (sem 𝓛 (cell_at full_share (Array R n).mir vs b o)) (H.⇛ (ex 𝓤 (λ (δ : GName). sep 𝓤 (sem 𝓛 ((ShrSlice ℓ ν R).own_val (at-list R b o δ xs) (slice_val (b, o) n ∷ []))) (sem 𝓛 (Shared R b o ν xs)))))
-    array-shares one mk ℓ ν xs vs is room =
+    pub array-shares : Single R.mir → Makes 𝓛 R (Is R) → Copied 𝓛 R → (ℓ : Lifetime) (ν : Lft) (xs : List R.Denot) (vs : List Val) → Is (Array R n) xs vs → Room R n
+        → ent 𝓤 (sem 𝓛 (cell_at full_share (Array R n).mir vs b o)) (H.⇛ (sep 𝓤 (sem 𝓛 ((ShrSlice ℓ ν R).own_val (at-shared R b o xs) (slice_val (b, o) n ∷ []))) (sem 𝓛 (Shared R b o ν xs))))
+    array-shares one mk c ℓ ν xs vs is room =
         qed 𝓛 (‵ (cell_at full_share (Array R n).mir vs b o) ∷ []) ∵ use1 𝓛 (‵ (Cells R b o xs)) (apart one mk xs vs is) $
-        by ! (subst (λ (k : ℕ). ent 𝓤 (sem 𝓛 (Cells R b o xs)) (H.⇛ (ex 𝓤 (λ (δ : GName). sep 𝓤 (sem 𝓛 ((ShrSlice ℓ ν R).own_val (at-list R b o δ xs) (slice_val (b, o) k ∷ []))) (sem 𝓛 (Shared R b o ν xs)))))) is.1.0.1
-        (slice-shares R b o 𝓛 ℓ ν xs (subst (Room R) (sym is.1.0.1) room)))
+        by ! (subst (λ (k : ℕ). ent 𝓤 (sem 𝓛 (Cells R b o xs)) (H.⇛ (sep 𝓤 (sem 𝓛 ((ShrSlice ℓ ν R).own_val (at-shared R b o xs) (slice_val (b, o) k ∷ []))) (sem 𝓛 (Shared R b o ν xs))))) is.1.0.1
+        (slice-shares R b o 𝓛 c ℓ ν xs (subst (Room R) (sym is.1.0.1) room)))
 
     pub array-unshares : (vals : R.Denot → List Val) → Tells R (Is R) vals → (ν : Lft) (xs : List R.Denot) → length xs ≡ n
         → ent 𝓤 (sep 𝓤 (A.dead ν) (sem 𝓛 (Shared R b o ν xs))) (H.⇛ (sep 𝓤 (sem 𝓛 (cell_at full_share (Array R n).mir (array_vals vals xs) b o)) (A.dead ν)))
