@@ -2,11 +2,11 @@
 use Prim.Native.Nat.{ℕ, zero, suc, ◌+◌, ◌-◌, ◌/◌, ◌≤◌, ◌<◌}
 use mathlib.Core.Path.{◌≡◌, refl, sym, ap, ◌∙◌}
 use mathlib.Core.Bool.{Bool, true, false, cond}
-use mathlib.Core.List.{List, [], ◌∷◌, ◌++◌}
+use mathlib.Core.List.{List, [], ◌∷◌}
 use native.Mathlib.Omega.{arith}
 use lib.ListN.{length, get_or, drop, get_or-append}
 use lib.Dec.{eqb}
-use borrow.Author.Tests.{eqb-true, eqb-false}
+use borrow.Author.Tests.{eqb-false}
 use Rattle.protocol_types.specs.Lists.{at}
 use Rattle.protocol_types.specs.Board.{Fits}
 use Rattle.protocol_types.specs.Conditions.{AllValid}
@@ -14,13 +14,10 @@ use Rattle.protocol.specs.Tables.{fresh}
 use Rattle.competitive.specs.EngineSchedule.{engine_schedule}
 use Rattle.protocol_types.specs.declared.Setup.{Setup}
 use Rattle.protocol_types.specs.declared.Request.{Request}
-use Rattle.protocol_types.specs.declared.Entry.{Entry}
 use Rattle.protocol_types.specs.declared.Entry.TheVariants.{Complete}
-use Rattle.protocol_types.specs.declared.BestSchedule.{BestSchedule}
-use Rattle.protocol_types.proofs.Laws.{choice}
 use Rattle.best_search.specs.Search.{State, searched, over, used}
 use Rattle.best_positions.specs.Position.{asked_all, entry_from, entries_from, board}
-use Rattle.best_positions.specs.Best.{SearchTables, position_count, engine_cycles, found, schedule, way_back, best_schedule}
+use Rattle.best_positions.specs.Best.{position_count, engine_cycles, found, schedule, way_back, best_schedule}
 use Rattle.best_positions.proofs.SoFar.{way_back_lem}
 use Rattle.best_own.specs.Own.{own_numbers}
 use Rattle.best_own_claims.proofs.Schedule.{own-total, own-entries}

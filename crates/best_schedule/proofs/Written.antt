@@ -8,13 +8,12 @@ use lib.ListN.{length, drop}
 use lib.Dec.{leb}
 use Rattle.best_search.specs.Search.{State, total, searched, over, used}
 use Rattle.best_positions.specs.Position.{board}
-use Rattle.best_positions.specs.Best.{SearchTables, search_tables}
+use Rattle.best_positions.specs.Best.{search_tables}
 use Rattle.best_lowest.specs.Lowest.{lowest_of}
 use Rattle.best_tries.specs.Progress.{state_at}
 use Rattle.best_tries.specs.declared.Progress.{Progress}
-use Rattle.best_own.specs.Own.{own_codes, own_numbers}
+use Rattle.best_own.specs.Own.{own_codes}
 use Rattle.protocol_types.specs.declared.Setup.{Setup}
-use Rattle.protocol_types.specs.declared.BestSchedule.{BestSchedule}
 use Rattle.best_way.proofs.Way.{least-is}
 use Rattle.best_schedule.specs.Found.{own_cost, search_found, numbers_to, numbers_found, best_found, tables_after}
 

@@ -1,0 +1,69 @@
+-- The engine's own actions, the search, and its schedule written over its distances.
+use mathlib.Core.Path.{refl, ap, ◌∙◌}
+use native.Mathlib.Omega.{arith}
+use lib.ListN.{length, drop, length-append, length-drop}
+use Rattle.best_own.specs.Own.{own_numbers}
+use Rattle.best_way.proofs.Way.{from-lt, goal-lt, way-fits}
+use Rattle.best_schedule.proofs.Written.{own-none, none, answer-is, tables-are}
+use Rattle.best_schedule.proofs.find.Goals as goal
+
+pub search-p-requires : goal.search-p-requires
+search-p-requires c =
+    let w = c.own_actions-own.ensures in
+    let n = own_numbers c.args.setup c.args.asks.now in
+    let e = ap length w.numbers ∙ length-append n (drop (length n) c.args.distances.now) in (
+      c.requires.fits.0,
+      c.requires.fits.2,
+      w.small,
+      λ h. w.cost ∙ own-none c.args.setup c.args.asks.now h,
+      omega (arith, e, length-drop (length n) c.args.distances.now, w.count, w.short, c.requires.tables_fit.distances),
+      c.requires.tables_fit.order,
+      c.requires.tables_fit.predecessors,
+      c.requires.tables_fit.lowest,
+    )
+
+pub write_schedule-count-requires : goal.write_schedule-count-requires
+write_schedule-count-requires c =
+    let w = c.own_actions-own.ensures in
+    let l = c.search-p.new in
+    let s = c.args.setup in
+    let asks = c.args.asks.now in
+    let steps = c.args.steps in
+    let own = c.own_actions-own.result.cost in
+    let few = c.requires.fits.2 in
+    let e = c.search-p.ensures.0 in
+    let no = none s asks steps own few w.cost l.distances l.order l.predecessors c.search-p.result e in
+    let n = own_numbers s asks in
+    let long = ap length w.numbers ∙ length-append n (drop (length n) c.args.distances.now) in record {
+      fits = (
+        c.requires.fits.0,
+        c.requires.fits.1,
+        few,
+        c.search-p.auto.predecessors ∙ c.requires.tables_fit.predecessors,
+        omega (arith, c.search-p.auto.distances, long, length-drop (length n) c.args.distances.now, w.count, w.short, c.requires.tables_fit.distances),
+      );
+      by_index = (
+        from-lt s asks steps own few no l.distances l.order l.predecessors c.search-p.result e,
+        goal-lt s asks steps own few no l.distances l.order l.predecessors c.search-p.result e,
+        way-fits s asks steps own few no l.distances l.order l.predecessors c.search-p.result e,
+      );
+    }
+
+pub returns : goal.returns
+returns c =
+    let w = c.own_actions-own.ensures in
+    let l = c.search-p.new in
+    let s = c.args.setup in
+    let asks = c.args.asks.now in
+    let steps = c.args.steps in
+    let own = c.own_actions-own.result.cost in
+    let few = c.requires.fits.2 in
+    let e = c.search-p.ensures.0 in
+    let z = c.write_schedule-count.ensures in record {
+      value =
+          answer-is s asks steps own few w.cost l.distances l.order l.predecessors c.search-p.result e c.write_schedule-count.result c.search-p.result.used
+          c.excess.result _ z.0 c.search-p.ensures.1 refl c.excess.ensures;
+      tables =
+          tables-are s asks steps own few w.cost l.distances l.order l.predecessors c.search-p.result e c.write_schedule-count.result
+          c.write_schedule-count.new.numbers l.lowest z.0 z.1 c.search-p.ensures.2;
+    }
