@@ -27,10 +27,12 @@ module _ {A : Type 0} (numbers : A → List ℕ) where
 -- ---- requests
 
 pub length-numbers : (qs : List Request) → length (list_numbers qs) ≡ length qs * request_width
-length-numbers = length-each request_numbers request_width (λ q. refl)
+length-numbers [] = refl
+length-numbers (q ∷ qs) = omega (arith, length-numbers qs)
 
 pub numbers-append : (qs rs : List Request) → list_numbers (qs ++ rs) ≡ list_numbers qs ++ list_numbers rs
-numbers-append = append-each request_numbers
+numbers-append [] rs = refl
+numbers-append (q ∷ qs) rs = ap (λ (l : List ℕ). request_numbers q ++ l) (numbers-append qs rs)
 
 operation-back : (o : Operation) → operation_of (operation_number o) (variable_number o) (value_number o) ≡ o
 unfolding operation_of

@@ -37,7 +37,8 @@ request_numbers q = q.processor ∷ operation_number q.operation ∷ variable_nu
 
 -- request after request
 abbrev pub list_numbers : List Request → List ℕ
-list_numbers = in_turn request_numbers
+list_numbers [] = []
+list_numbers (q ∷ qs) = request_numbers q ++ list_numbers qs
 
 -- ---- a schedule's entries
 
