@@ -3,6 +3,7 @@ use mathlib.Core.Path.{◌≡◌}
 use mathlib.Core.List.{List}
 use Rattle.protocol.specs.Tables.{tables}
 use Rattle.protocol.specs.Masks.{holders}
+use Rattle.bits.specs.Bits.{without_bit}
 use Rattle.bits.proofs.Visits.{Visited}
 use Rattle.engine_holders.specs.Searches.{weakest_below}
 use Rattle.engine_holders.proofs.payer.Given as goal
@@ -13,6 +14,7 @@ invariant-loop-others l =
     × Visited l.setup.processors l.initial.others upto l.others
     × (l.weakest ≤ l.setup.processors)
     × ((b m w g : List ℕ) → l.mask ≡ holders l.setup (tables b l.counters m w g) l.block → l.weakest ≡ weakest_below l.setup (tables b l.counters m w g) l.processor l.block upto)
+    × (l.initial.others ≡ without_bit l.mask l.processor)
 
 abbrev pub decreases-loop-others : goal.decreases-loop-others
 decreases-loop-others l = l.others
