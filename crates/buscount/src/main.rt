@@ -1,6 +1,6 @@
 // Counts the bus cycles of the din trace on standard input.
 #![tactic(auto)]
 
-fn main() {
-    trace_report::run();
+fn main(rt: HostRuntime) {
+    trace_report::run(&rt);
 }

@@ -1,6 +1,6 @@
 // A trace that is cut over five reads, with clears among its lines, also where it is cut.
 #![tactic(auto)]
 
-fn main() {
-    trace_report::run();
+fn main(rt: HostRuntime) {
+    trace_report::run(&rt);
 }

@@ -1,6 +1,6 @@
 // Processor 4 is refused, before its variable.
 #![tactic(auto)]
 
-fn main() {
-    trace_report::run();
+fn main(rt: HostRuntime) {
+    trace_report::run(&rt);
 }

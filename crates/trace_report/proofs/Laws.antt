@@ -8,7 +8,6 @@ use native.Mathlib.Omega.{arith}
 use lib.ListN.{length, take}
 use lib.IntN.{ℤ, pos}
 use lib.Signed.{lt_z, le_z}
-use Rattle.io.specs.Counts.{clamp_len}
 use Rattle.protocol.specs.Tables.{Tables, fresh}
 use Rattle.trace_lines.specs.Trace.{trace_setup, Ended, report}
 use Rattle.trace_count.specs.Counting.{CountStage, count_stage, fresh_count, Countable}
@@ -17,7 +16,7 @@ use Rattle.trace.specs.Feeding.{fed, finished}
 use Rattle.trace.proofs.Laws.{first-stage, countable-first}
 use Rattle.trace.proofs.Feeding.{fed-append, countable-fed}
 use Rattle.trace.proofs.Whole.{fed-ended}
-use Rattle.trace_report.specs.Reading.{Read, read_of, is_last, brought, Reading, counted, after_read, Took, after_reads, all_brought, InTurn, Reached, Reported}
+use Rattle.trace_report.specs.Reading.{clamp_len, Read, read_of, is_last, brought, Reading, counted, after_read, Took, after_reads, all_brought, InTurn, Reached, Reported}
 
 -- ---- one read
 

@@ -1,7 +1,6 @@
 -- What reads of standard input come to. No contract says what a read answers or which bytes it brings; all that follows from these is defined here.
-use Rattle.std.specs.Prelude.{ℕ, ◌-◌, ◌^◌, ◌≡◌, Bool, true, false, cond, List, [], ◌∷◌, ◌++◌, ℤ, pos, eqb, length, take}
+use Rattle.std.specs.Prelude.{ℕ, ◌-◌, ◌^◌, ◌≡◌, ◌≤◌, min, Bool, true, false, cond, List, [], ◌∷◌, ◌++◌, ℤ, pos, negsuc, eqb, length, take}
 use Rattle.std.specs.Int.Signed.{lt_z, le_z}
-use Rattle.io.specs.Counts.{clamp_len}
 use Rattle.protocol_types.specs.Refusals.{no_refusal}
 use Rattle.protocol.specs.Tables.{Tables, fresh}
 use Rattle.trace_lines.specs.Trace.{trace_setup, report}
@@ -12,6 +11,15 @@ use Rattle.trace_report.specs.declared.Answer.{Answer}
 use Rattle.trace_report.specs.declared.Delivery.{Delivery}
 
 -- ---- one read
+
+-- `&xs[..n]` is in bounds and has n bytes
+abbrev pub IsPrefixLen : ℕ → List ℕ → Type 0
+IsPrefixLen n xs = (n ≤ length xs) × (n ≡ length (take n xs))
+
+-- what a read answered, brought into `0..=most`
+abbrev pub clamp_len : ℤ → ℕ → ℕ
+clamp_len (pos k) most = min k most
+clamp_len (negsuc k) most = 0
 
 -- what a read answered (a number of bytes, 0 at the end of the input, less where it failed), and the buffer as it left it
 pub record Read : Type 0 where

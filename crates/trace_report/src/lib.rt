@@ -1,15 +1,15 @@
 // Reads a din trace on standard input and prints what it came to.
 #![tactic(auto)]
 
-ghost use Rattle.std.specs.Prelude.{◌≡◌};
+ghost use Rattle.std.specs.Prelude.{◌≡◌, ◌≤◌, min, length};
 ghost use Rattle.protocol.specs.Tables.{fresh};
 ghost use Rattle.protocol.specs.Lent.{lent, TrueMasks};
 ghost use Rattle.protocol.specs.Masks.{masks_of};
 ghost use Rattle.trace_lines.specs.Trace.{trace_setup};
 ghost use Rattle.trace_count.specs.Counting.{count_stage, Countable};
-ghost use Rattle.trace_report.specs.Reading.{read_of, reading, after_read, Took, Reached, Reported, Withheld, Delivered};
+ghost use Rattle.trace_report.specs.Reading.{IsPrefixLen, clamp_len, read_of, reading, after_read, Took, Reached, Reported, Withheld, Delivered};
 
-use libc::{STDERR_FILENO, STDIN_FILENO, STDOUT_FILENO};
+use std::io::Read;
 use trace::BLOCKS;
 use trace_count::Count;
 use trace_lines::Report;
@@ -22,12 +22,42 @@ const WORDS: usize = 128;
 
 const VARIABLES: usize = 256;
 
+// How many bytes are read at once.
+const BUFFER: usize = 65536;
+
 // A trace after a read: whether to read on, whether a read failed, and what was counted.
 #[derive(Clone, Copy)]
 struct Progress {
     going: bool,
     failed: bool,
     count: Count,
+}
+
+// How many bytes of the buffer a read brought: none where it failed, and no more than the buffer has.
+fn brought(got: isize, buffer: &[u8]) -> usize
+    ensures in_bounds { IsPrefixLen result buffer.now }
+    ensures value { result ≡ clamp_len got (length buffer.now) }
+{
+    clamp(got, buffer.len())
+}
+
+fn clamp(got: isize, most: usize) -> usize
+    ensures bound { result ≤ most }
+    ensures value { result ≡ clamp_len got most }
+{
+    if got > 0 {
+        smaller(got as usize, most)
+    } else {
+        0
+    }
+}
+
+fn smaller(a: usize, b: usize) -> usize
+    ensures a_bound { result ≤ a }
+    ensures b_bound { result ≤ b }
+    ensures value { result ≡ min a b }
+{
+    if a < b { a } else { b }
 }
 
 // Counts what a read brought. Reading stops at the end of the input, at an error and after a refusal.
@@ -55,7 +85,7 @@ fn count_read(
             count: count,
         };
     }
-    let n = io::count(got, buffer);
+    let n = brought(got, buffer);
     let next = trace::feed(
         count,
         &buffer[..n],
@@ -74,8 +104,17 @@ fn count_read(
     }
 }
 
-// Reads once.
-fn read_some(
+// Reads once: how many bytes came, 0 at the end of the input, less where it failed.
+fn answer_of_read<R: Read>(input: &mut R, buffer: &mut [u8]) -> isize {
+    match input.read(buffer) {
+        Ok(n) => n as isize,
+        Err(_) => -1,
+    }
+}
+
+// Reads once, and counts what came.
+fn read_some<R: Read>(
+    input: &mut R,
     count: Count,
     buffer: &mut [u8],
     blocks: &mut [u32],
@@ -91,14 +130,15 @@ fn read_some(
         (reading result (lent blocks.new counters.new marks.new words.new memory.new)) }
     ensures masks_after { masks.new ≡ masks_of trace_setup (lent blocks.new counters.new marks.new words.new memory.new) }
 {
-    let got = libc::read(STDIN_FILENO, buffer);
+    let got = answer_of_read(input, buffer);
     count_read(
         got, count, &*buffer, blocks, counters, marks, words, memory, masks,
     )
 }
 
 // Reads to the end of the trace. The count of turns is there so that the loop ends.
-fn read_all(
+fn read_all<R: Read>(
+    input: &mut R,
     buffer: &mut [u8],
     blocks: &mut [u32],
     counters: &mut [u32],
@@ -120,7 +160,7 @@ fn read_all(
     let mut turns = u64::MAX;
     while turns > 0 {
         at = read_some(
-            at.count, buffer, blocks, counters, marks, words, memory, masks,
+            input, at.count, buffer, blocks, counters, marks, words, memory, masks,
         );
         if !at.going {
             return at;
@@ -137,8 +177,9 @@ pub struct Answer {
     pub report: Report,
 }
 
-// The report of the trace on standard input.
-fn read_report(
+// The report of the trace on the input.
+fn read_report<R: Read>(
+    input: &mut R,
     blocks: &mut [u32],
     counters: &mut [u32],
     marks: &mut [u32],
@@ -150,8 +191,17 @@ fn read_report(
     requires true_masks { TrueMasks trace_setup (lent blocks.old counters.old marks.old words.old memory.old) masks.old }
     ensures { Reported result }
 {
-    let mut buffer = io::large_buffer();
-    let end = read_all(&mut buffer, blocks, counters, marks, words, memory, masks);
+    let mut buffer = [0u8; BUFFER];
+    let end = read_all(
+        input,
+        &mut buffer,
+        blocks,
+        counters,
+        marks,
+        words,
+        memory,
+        masks,
+    );
     let count = end.count;
     let report = trace::finish(count, blocks, counters, marks, words, memory, masks);
     Answer {
@@ -168,30 +218,24 @@ pub struct Delivery {
 }
 
 // Writes the report of an answer, or says on standard error why it is not written: whether it was. After a read error no totals are written, since they would be those of a part of the trace.
-fn tell(answer: Answer) -> bool
+fn tell<R: Print + Eprint>(rt: &R, answer: Answer) -> bool
     ensures { Withheld answer.failed result }
 {
     if answer.failed {
-        io::write_all(
-            STDERR_FILENO,
-            b"buscount: standard input could not be read.\n",
-        );
+        let _ = rt.eprintln("buscount: standard input could not be read.");
         return false;
     }
     let mut text = [0u8; TEXT_WIDTH];
     let length = trace_text::render(answer.report, &mut text);
-    if io::write_all(STDOUT_FILENO, &text[..length]) {
+    if rt.write_all(&text[..length]).is_ok() {
         return true;
     }
-    io::write_all(
-        STDERR_FILENO,
-        b"buscount: the report could not be written.\n",
-    );
+    let _ = rt.eprintln("buscount: the report could not be written.");
     false
 }
 
 // The program `buscount`: what it answers, and whether that was written.
-pub fn run() -> Delivery
+pub fn run<R: Input + Print + Eprint>(rt: &R) -> Delivery
     ensures { Delivered result }
 {
     let mut blocks = [0u32; SLOTS];
@@ -200,7 +244,9 @@ pub fn run() -> Delivery
     let mut words = [0u32; WORDS];
     let mut memory = [0u32; VARIABLES];
     let mut masks = [0u8; BLOCKS];
+    let mut input = rt.reader();
     let answer = read_report(
+        &mut input,
         &mut blocks,
         &mut counters,
         &mut marks,
@@ -208,7 +254,7 @@ pub fn run() -> Delivery
         &mut memory,
         &mut masks,
     );
-    let written = tell(answer);
+    let written = tell(rt, answer);
     Delivery {
         answer: answer,
         written: written,

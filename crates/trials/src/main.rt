@@ -27,16 +27,16 @@ const RUNS: u32 = 24000;
 
 const PRICES: u32 = 16000;
 
-fn starts(cells: &mut Cells, n: u32) {
+fn starts(rt: &impl Print, cells: &mut Cells, n: u32) {
     let mut k = 0;
     while k < n {
-        run_trials::start_case(cells, k);
+        run_trials::start_case(rt, cells, k);
         k += 1;
     }
 }
 
 // The runs of a list go on over the tables and the account that the last one left.
-fn series(cells: &mut Cells, n: u32) {
+fn series(rt: &impl Print, cells: &mut Cells, n: u32) {
     let mut at = Series {
         setup: setups::largest(0),
         account: setups::fresh_account(),
@@ -44,67 +44,67 @@ fn series(cells: &mut Cells, n: u32) {
     };
     let mut k = 0;
     while k < n {
-        at = run_trials::run_case(cells, at, k);
+        at = run_trials::run_case(rt, cells, at, k);
         k += 1;
     }
 }
 
-fn prices(cells: &mut Cells, n: u32) {
+fn prices(rt: &impl Print, cells: &mut Cells, n: u32) {
     let mut k = 0;
     while k < n {
-        price_trials::price_case(cells, k);
+        price_trials::price_case(rt, cells, k);
         k += 1;
     }
 }
 
 // The looks, by whether the block was held.
-fn print_looks(cells: &Cells) {
-    state::print_cases(cells, state::LOOK, b"look");
-    state::print_cell(cells, b"look empty: ", state::count_place(state::LOOK, 0));
-    state::print_cell(cells, b"look held: ", state::count_place(state::LOOK, 1));
+fn print_looks(rt: &impl Print, cells: &Cells) {
+    state::print_cases(rt, cells, state::LOOK, b"look");
+    state::print_cell(rt, cells, b"look empty: ", state::count_place(state::LOOK, 0));
+    state::print_cell(rt, cells, b"look held: ", state::count_place(state::LOOK, 1));
 }
 
-fn print_sums(cells: &Cells) {
-    state::print_cell(cells, b"requests served in runs ", state::REQUESTS);
-    state::print_cell(cells, b"cycles billed in runs ", state::CYCLES);
-    state::print_cell(
+fn print_sums(rt: &impl Print, cells: &Cells) {
+    state::print_cell(rt, cells, b"requests served in runs ", state::REQUESTS);
+    state::print_cell(rt, cells, b"cycles billed in runs ", state::CYCLES);
+    state::print_cell(rt, 
         cells,
         b"runs refused for a false mask alone ",
         state::FALSE_MASKS,
     );
-    state::print_cell(
+    state::print_cell(rt, 
         cells,
         b"schedules compared with the engine ",
         state::COMPARED,
     );
-    state::print_cell(cells, b"of them cheaper than the engine ", state::CHEAPER);
-    state::print_cell(
+    state::print_cell(rt, cells, b"of them cheaper than the engine ", state::CHEAPER);
+    state::print_cell(rt, 
         cells,
         b"of them with fetch and update cycles equal to its fetch cycles ",
         state::MET,
     );
-    state::print_cell(
+    state::print_cell(rt, 
         cells,
         b"of them with those equal to its update and write-back cycles ",
         state::MET_UPDATES,
     );
-    state::print_cell(cells, b"differences ", state::DIFFERENCES);
+    state::print_cell(rt, cells, b"differences ", state::DIFFERENCES);
 }
 
 // The counts of each kind by number, and last the differences.
-fn print_all(cells: &Cells) {
-    state::print_kind(cells, state::START, b"start");
-    state::print_kind(cells, state::RUN, b"run");
-    print_looks(cells);
-    state::print_kind(cells, state::PRICE, b"price");
-    print_sums(cells);
+fn print_all(rt: &impl Print, cells: &Cells) {
+    state::print_kind(rt, cells, state::START, b"start");
+    state::print_kind(rt, cells, state::RUN, b"run");
+    print_looks(rt, cells);
+    state::print_kind(rt, cells, state::PRICE, b"price");
+    print_sums(rt, cells);
 }
 
-fn main() {
+fn main(rt: HostRuntime) {
     let mut cells = [0u32; trials_cells::cells::SIZE];
     state::set_seed(&mut cells, FIRST_SEED);
-    starts(&mut cells, STARTS);
-    series(&mut cells, RUNS);
-    prices(&mut cells, PRICES);
-    print_all(&cells);
+    starts(&rt, &mut cells, STARTS);
+    series(&rt, &mut cells, RUNS);
+    prices(&rt, &mut cells, PRICES);
+    print_all(&rt, &cells);
 }

@@ -303,9 +303,9 @@ fn met(cycles: u32, play: Play) -> bool {
 
 // The engine's bill for n requests beside the cost of a legal schedule for them. The account is the model's, which the
 // entry's was compared with.
-fn note_compared(cells: &mut Cells, judged: Judged, n: u32, play: Play, case: u32) {
+fn note_compared(rt: &impl Print, cells: &mut Cells, judged: Judged, n: u32, play: Play, case: u32) {
     let account = judged.account;
-    run_trials::note_run(cells, judged, setups::fresh_account(), case);
+    run_trials::note_run(rt, cells, judged, setups::fresh_account(), case);
     state::add(cells, state::COMPARED, 1);
     let cheaper = run_trials::cycles(account) > play.cost;
     state::add(cells, state::CHEAPER, cheaper as u32);
@@ -313,7 +313,7 @@ fn note_compared(cells: &mut Cells, judged: Judged, n: u32, play: Play, case: u3
     state::add(cells, state::MET, met(account.fetch, play) as u32);
     state::add(cells, state::MET_UPDATES, met(rest, play) as u32);
     let what = bound_differs(account, n, play);
-    state::judge(cells, state::PRICE, case, what);
+    state::judge(rt, cells, state::PRICE, case, what);
 }
 
 fn style_of(wild: u32, idle: u32) -> Style {
@@ -391,22 +391,22 @@ fn pick_question(cells: &mut Cells) -> Question {
 }
 
 // A schedule of m numbers is priced, and if it is legal the engine's bill is compared with its cost.
-fn judge_schedule(cells: &mut Cells, question: Question, m: u32, case: u32) {
+fn judge_schedule(rt: &impl Print, cells: &mut Cells, question: Question, m: u32, case: u32) {
     let right = question.right;
     let priced = price_both(cells, question, m);
     let play = priced.play;
-    state::record(cells, state::PRICE, case, play.refusal, priced.what);
+    state::record(rt, cells, state::PRICE, case, play.refusal, priced.what);
     if play.refusal != NO_REFUSAL {
         return;
     }
     let judged = run_fresh(cells, right, question.n);
-    note_compared(cells, judged, question.n, play, case);
+    note_compared(rt, cells, judged, question.n, play, case);
 }
 
-pub(crate) fn price_case(cells: &mut Cells, case: u32) {
+pub(crate) fn price_case(rt: &impl Print, cells: &mut Cells, case: u32) {
     let question = pick_question(cells);
     let right = question.right;
     let count = pick_schedule(cells, right, question.n);
     let m = lists::perhaps_partial(cells, numbers_of(count), 16);
-    judge_schedule(cells, question, m, case);
+    judge_schedule(rt, cells, question, m, case);
 }

@@ -93,13 +93,13 @@ pub(crate) fn compare(
 }
 
 // Starts the tables, in the model and by the entry.
-fn start_both(cells: &mut Cells, setup: Setup, case: u32) {
+fn start_both(rt: &impl Print, cells: &mut Cells, setup: Setup, case: u32) {
     let fresh = setups::fresh_account();
     copy_tables(cells);
     let refusal = lent::start(cells, setup);
     let expected = asked::answer_of(refusal, 0, 0, 0, fresh);
     let what = compare(cells, state::START, setup, fresh, 0, 0, expected);
-    state::record(cells, state::START, case, refusal, what);
+    state::record(rt, cells, state::START, case, refusal, what);
 }
 
 // Each number at 0, 1, its largest and one more.
@@ -147,11 +147,11 @@ fn scatter_tables(cells: &mut Cells, from: u32) {
     scatter(cells, REAL_MASKS, lent::MASK_CELLS, from, BYTES);
 }
 
-pub(crate) fn start_case(cells: &mut Cells, case: u32) {
+pub(crate) fn start_case(rt: &impl Print, cells: &mut Cells, case: u32) {
     let setup = pick_start(cells, case);
     let from = word(cells);
     scatter_tables(cells, from);
-    start_both(cells, setup, case);
+    start_both(rt, cells, setup, case);
 }
 
 // A list of runs over the same tables and account, and how many are left of it.
@@ -222,14 +222,14 @@ struct Sight {
 }
 
 // A look at a block of a cache, in the model and by the entry.
-fn look_both(cells: &mut Cells, sight: Sight, case: u32) {
+fn look_both(rt: &impl Print, cells: &mut Cells, sight: Sight, case: u32) {
     let setup = sight.setup;
     let i = sight.processor;
     let b = sight.block;
     let seen = asked::look(cells, setup, i, b);
     let shows = lent::shows(cells, setup, i, b);
     let what = look_differs(seen, shows, setup.words);
-    state::record(cells, state::LOOK, case, shows as u32, what);
+    state::record(rt, cells, state::LOOK, case, shows as u32, what);
 }
 
 // A look shows p words, those of the block, or none.
@@ -275,9 +275,9 @@ fn pick_look(cells: &mut Cells, right: Setup) -> Sight {
     }
 }
 
-fn look_case(cells: &mut Cells, right: Setup, case: u32) {
+fn look_case(rt: &impl Print, cells: &mut Cells, right: Setup, case: u32) {
     let sight = pick_look(cells, right);
-    look_both(cells, sight, case);
+    look_both(rt, cells, sight, case);
 }
 
 // A new list: its setup, its account, and how many runs it has.
@@ -294,24 +294,24 @@ fn pick_series(cells: &mut Cells) -> Series {
 
 // The tables are started, whatever they held, and perhaps damaged. Main memory may hold anything; the started caches are
 // empty.
-fn begin_tables(cells: &mut Cells, setup: Setup, case: u32) {
+fn begin_tables(rt: &impl Print, cells: &mut Cells, setup: Setup, case: u32) {
     let from = word(cells);
     scatter_tables(cells, from);
     lent::put_lengths(cells, setup, 0);
-    start_both(cells, setup, case);
+    start_both(rt, cells, setup, case);
     scatter(cells, REAL_MEMORY, lent::variables(setup), from, WORDS);
     damage::perhaps_damage(cells, setup);
 }
 
 // A list goes on, or a new one begins.
-fn next_series(cells: &mut Cells, at: Series, case: u32) -> Series {
+fn next_series(rt: &impl Print, cells: &mut Cells, at: Series, case: u32) -> Series {
     state::begin(cells);
     if at.left > 0 {
         return at;
     }
     let next = pick_series(cells);
     let setup = next.setup;
-    begin_tables(cells, setup, case);
+    begin_tables(rt, cells, setup, case);
     next
 }
 
@@ -331,9 +331,9 @@ fn pick_plan(cells: &mut Cells, at: Series) -> Plan {
 }
 
 // What a run came to is noted.
-pub(crate) fn note_run(cells: &mut Cells, judged: Judged, before: Account, case: u32) {
+pub(crate) fn note_run(rt: &impl Print, cells: &mut Cells, judged: Judged, before: Account, case: u32) {
     let after = judged.account;
-    state::record(cells, state::RUN, case, judged.refusal, judged.what);
+    state::record(rt, cells, state::RUN, case, judged.refusal, judged.what);
     state::add(
         cells,
         state::REQUESTS,
@@ -343,27 +343,27 @@ pub(crate) fn note_run(cells: &mut Cells, judged: Judged, before: Account, case:
 }
 
 // Two looks, before and after the tables are perhaps damaged.
-fn look_around(cells: &mut Cells, setup: Setup, case: u32) {
-    look_case(cells, setup, case);
+fn look_around(rt: &impl Print, cells: &mut Cells, setup: Setup, case: u32) {
+    look_case(rt, cells, setup, case);
     damage::perhaps_damage(cells, setup);
-    look_case(cells, setup, case);
+    look_case(rt, cells, setup, case);
 }
 
 // The next run of a list.
-fn run_next(cells: &mut Cells, at: Series, case: u32) -> Judged {
+fn run_next(rt: &impl Print, cells: &mut Cells, at: Series, case: u32) -> Judged {
     let before = at.account;
     let plan = pick_plan(cells, at);
     let judged = run_both(cells, plan);
-    note_run(cells, judged, before, case);
+    note_run(rt, cells, judged, before, case);
     judged
 }
 
 // One run of a list, and two looks at what it left.
-pub(crate) fn run_case(cells: &mut Cells, last: Series, case: u32) -> Series {
-    let at = next_series(cells, last, case);
+pub(crate) fn run_case(rt: &impl Print, cells: &mut Cells, last: Series, case: u32) -> Series {
+    let at = next_series(rt, cells, last, case);
     let setup = at.setup;
-    let judged = run_next(cells, at, case);
-    look_around(cells, setup, case);
+    let judged = run_next(rt, cells, at, case);
+    look_around(rt, cells, setup, case);
     series_after(at, judged)
 }
 

@@ -67,64 +67,64 @@ const OWN_ACTIONS: u32 = 20;
 // ---- what has to hold of what is seen
 
 // A difference where it does not hold.
-fn expect(cells: &mut Cells, holds: bool, what: u32) {
+fn expect(rt: &impl Print, cells: &mut Cells, holds: bool, what: u32) {
     if !holds {
         let case = value(cells, CASE);
-        state::judge(cells, LIST, case, what);
+        state::judge(rt, cells, LIST, case, what);
     }
 }
 
 // The number at a place is this one.
-fn expect_at(cells: &mut Cells, place: u32, x: u32, what: u32) {
+fn expect_at(rt: &impl Print, cells: &mut Cells, place: u32, x: u32, what: u32) {
     let holds = value(cells, place) == x;
-    expect(cells, holds, what);
+    expect(rt, cells, holds, what);
 }
 
 // Nothing but the refusal comes of it.
-fn expect_refusal(cells: &mut Cells, expected: Refusal) {
-    expect_at(cells, REFUSAL, expected.number, state::REFUSAL);
-    expect_at(cells, PLACE, expected.place, state::PLACE);
-    expect_at(cells, CHANGED, 0, state::BUFFERS);
-    expect_at(cells, CHANGED_TABLES, 0, state::BUFFERS);
+fn expect_refusal(rt: &impl Print, cells: &mut Cells, expected: Refusal) {
+    expect_at(rt, cells, REFUSAL, expected.number, state::REFUSAL);
+    expect_at(rt, cells, PLACE, expected.place, state::PLACE);
+    expect_at(rt, cells, CHANGED, 0, state::BUFFERS);
+    expect_at(rt, cells, CHANGED_TABLES, 0, state::BUFFERS);
 }
 
 // A legal schedule of the cost that is told; what stands behind it stays. The excess is its cost less half the engine's cycles.
-fn expect_schedule(cells: &mut Cells, cost: u32) {
-    expect_at(cells, REFUSAL, NO_REFUSAL, state::REFUSAL);
-    expect_at(cells, CHANGED, 0, state::BUFFERS);
-    expect_at(cells, LEGAL, 1, NOT_LEGAL);
-    expect_at(cells, PLAYED_COST, cost, state::COST);
+fn expect_schedule(rt: &impl Print, cells: &mut Cells, cost: u32) {
+    expect_at(rt, cells, REFUSAL, NO_REFUSAL, state::REFUSAL);
+    expect_at(rt, cells, CHANGED, 0, state::BUFFERS);
+    expect_at(rt, cells, LEGAL, 1, NOT_LEGAL);
+    expect_at(rt, cells, PLAYED_COST, cost, state::COST);
     let half = quotient(sum(value(cells, OWN_CYCLES), 1), 2);
     let excess = value(cells, EXCESS);
-    expect(cells, sum(half, excess) == cost, WRONG_EXCESS);
+    expect(rt, cells, sum(half, excess) == cost, WRONG_EXCESS);
 }
 
 // It is not cheaper than the least cost and no dearer than `bound`, which fewer steps gave.
-fn expect_cost(cells: &mut Cells, cost: u32, bound: u32) {
+fn expect_cost(rt: &impl Print, cells: &mut Cells, cost: u32, bound: u32) {
     let least = value(cells, LEAST_COST);
-    expect(cells, cost >= least, state::COST);
-    expect(cells, cost <= bound, state::COST);
+    expect(rt, cells, cost >= least, state::COST);
+    expect(rt, cells, cost <= bound, state::COST);
 }
 
 // It is called least once no steps are needed any more, and only if it is.
-fn expect_least(cells: &mut Cells, cost: u32, steps: u32) {
+fn expect_least(rt: &impl Print, cells: &mut Cells, cost: u32, steps: u32) {
     let used = value(cells, STEPS);
     if value(cells, LEAST) == 1 {
-        expect_at(cells, LEAST_COST, cost, NOT_LEAST);
-        expect(cells, used <= steps, STEPS_USED);
+        expect_at(rt, cells, LEAST_COST, cost, NOT_LEAST);
+        expect(rt, cells, used <= steps, STEPS_USED);
         return;
     }
-    expect(cells, used == steps, STEPS_USED);
-    expect(cells, steps < SUFFICIENT, NOT_LEAST);
+    expect(rt, cells, used == steps, STEPS_USED);
+    expect(rt, cells, steps < SUFFICIENT, NOT_LEAST);
 }
 
 // With 0 steps it is the engine's own actions.
-fn expect_own(cells: &mut Cells) {
+fn expect_own(rt: &impl Print, cells: &mut Cells) {
     let count = value(cells, OWN_COUNT);
     let cycles = value(cells, OWN_CYCLES);
-    expect_at(cells, ENTRIES, count, OWN_ACTIONS);
-    expect_at(cells, NOT_OWN, 0, OWN_ACTIONS);
-    expect_at(cells, COST, cycles, state::COST);
+    expect_at(rt, cells, ENTRIES, count, OWN_ACTIONS);
+    expect_at(rt, cells, NOT_OWN, 0, OWN_ACTIONS);
+    expect_at(rt, cells, COST, cycles, state::COST);
 }
 
 // ---- the cases
@@ -140,12 +140,12 @@ fn count_search(cells: &mut Cells, cost: u32) {
 }
 
 // One search in at most so many steps, where fewer gave a schedule of cost `bound`: its cost.
-fn search(cells: &mut Cells, steps: u32, bound: u32) -> u32 {
+fn search(rt: &impl Print, cells: &mut Cells, steps: u32, bound: u32) -> u32 {
     asked::ask(cells, steps);
     let cost = value(cells, COST);
-    expect_schedule(cells, cost);
-    expect_cost(cells, cost, bound);
-    expect_least(cells, cost, steps);
+    expect_schedule(rt, cells, cost);
+    expect_cost(rt, cells, cost, bound);
+    expect_least(rt, cells, cost, steps);
     count_search(cells, cost);
     cost
 }
@@ -160,40 +160,40 @@ fn pick_steps(cells: &mut Cells) -> u32 {
 }
 
 // More and more steps for one list, and last a few less than those that sufficed.
-fn searches(cells: &mut Cells) {
-    let first = search(cells, 0, value(cells, OWN_CYCLES));
-    expect_own(cells);
+fn searches(rt: &impl Print, cells: &mut Cells) {
+    let first = search(rt, cells, 0, value(cells, OWN_CYCLES));
+    expect_own(rt, cells);
     let few = pick_steps(cells);
-    let second = search(cells, few, first);
+    let second = search(rt, cells, few, first);
     let more = sum(few, pick_steps(cells));
-    let third = search(cells, more, second);
-    search(cells, SUFFICIENT, third);
+    let third = search(rt, cells, more, second);
+    search(rt, cells, SUFFICIENT, third);
     let nearly = less(value(cells, STEPS), between(cells, 1, 12));
-    search(cells, nearly, first);
+    search(rt, cells, nearly, first);
 }
 
 // The model and the search for a question that nothing refuses.
-fn search_case(cells: &mut Cells) {
+fn search_case(rt: &impl Print, cells: &mut Cells) {
     let n = quotient(value(cells, NUMBERS), REQUEST_WIDTH);
     rules::put_lines(cells);
     own::serve_all(cells, n);
     least::find(cells, n);
-    searches(cells);
+    searches(rt, cells);
     let bettered = value(cells, LEAST_COST) < value(cells, OWN_CYCLES);
     state::add(cells, BETTERED, bettered as u32);
     state::add(cells, state::REQUESTS, n);
 }
 
 // A question is refused as it has to be, or answered.
-fn ask_case(cells: &mut Cells, case: u32) {
+fn ask_case(rt: &impl Print, cells: &mut Cells, case: u32) {
     let expected = questions::expected(cells);
-    state::record(cells, LIST, case, expected.number, 0);
+    state::record(rt, cells, LIST, case, expected.number, 0);
     if expected.number == NO_REFUSAL {
-        search_case(cells);
+        search_case(rt, cells);
         return;
     }
     asked::ask(cells, SUFFICIENT);
-    expect_refusal(cells, expected);
+    expect_refusal(rt, cells, expected);
 }
 
 // A right question has a long list once in two times.
@@ -209,7 +209,7 @@ fn put_wrong(cells: &mut Cells) {
     questions::spoil(cells);
 }
 
-fn one_case(cells: &mut Cells, case: u32) {
+fn one_case(rt: &impl Print, cells: &mut Cells, case: u32) {
     state::begin(cells);
     set_value(cells, CASE, case);
     if case % RIGHT == 0 {
@@ -217,43 +217,43 @@ fn one_case(cells: &mut Cells, case: u32) {
     } else {
         put_wrong(cells);
     }
-    ask_case(cells, case);
+    ask_case(rt, cells, case);
 }
 
-fn cases(cells: &mut Cells, n: u32) {
+fn cases(rt: &impl Print, cells: &mut Cells, n: u32) {
     let mut k = 0;
     while k < n {
-        one_case(cells, k);
+        one_case(rt, cells, k);
         k += 1;
     }
 }
 
-fn print_all(cells: &Cells) {
-    state::print_kind(cells, LIST, b"list");
-    state::print_cell(
+fn print_all(rt: &impl Print, cells: &Cells) {
+    state::print_kind(rt, cells, LIST, b"list");
+    state::print_cell(rt, 
         cells,
         b"requests of lists that were searched ",
         state::REQUESTS,
     );
-    state::print_cell(
+    state::print_cell(rt, 
         cells,
         b"lists with a schedule cheaper than the engine's own ",
         BETTERED,
     );
-    state::print_cell(cells, b"searches compared ", SEARCHES);
-    state::print_cell(cells, b"of them called least ", CALLED_LEAST);
-    state::print_cell(
+    state::print_cell(rt, cells, b"searches compared ", SEARCHES);
+    state::print_cell(rt, cells, b"of them called least ", CALLED_LEAST);
+    state::print_cell(rt, 
         cells,
         b"of the others cheaper than the engine's own ",
         CHEAPER,
     );
-    state::print_cell(cells, b"steps used ", ALL_STEPS);
-    state::print_cell(cells, b"differences ", state::DIFFERENCES);
+    state::print_cell(rt, cells, b"steps used ", ALL_STEPS);
+    state::print_cell(rt, cells, b"differences ", state::DIFFERENCES);
 }
 
-fn main() {
+fn main(rt: HostRuntime) {
     let mut cells = [0u32; trials_cells::cells::SIZE];
     state::set_seed(&mut cells, FIRST_SEED);
-    cases(&mut cells, QUESTIONS);
-    print_all(&cells);
+    cases(&rt, &mut cells, QUESTIONS);
+    print_all(&rt, &cells);
 }

@@ -41,27 +41,35 @@ fn difference(expected: u32, refusal: u32, unlike: u32) -> u32 {
 }
 
 // The list of another setup or of another length: the first `most` cells are those of the list.
-fn compare_other(cells: &mut Cells, case: u32, setup: Setup, seed: u32, n: u32, most: u32) {
+fn compare_other(
+    rt: &impl Print,
+    cells: &mut Cells,
+    case: u32,
+    setup: Setup,
+    seed: u32,
+    n: u32,
+    most: u32,
+) {
     let refusal = entry::generate(cells, setup, seed, n, OTHER);
     let unlike = differences(cells, REAL, OTHER, most);
-    state::judge(cells, LIST, case, difference(0, refusal, unlike));
+    state::judge(rt, cells, LIST, case, difference(0, refusal, unlike));
     state::add(cells, state::COMPARED, 1);
 }
 
 // A longer list begins with the list. The lines, the prices and the words of a block change nothing where there are as many
 // processors and variables.
-fn compare_others(cells: &mut Cells, case: u32, setup: Setup, seed: u32, n: u32) {
+fn compare_others(rt: &impl Print, cells: &mut Cells, case: u32, setup: Setup, seed: u32, n: u32) {
     let more = product(between(cells, 1, 20), WIDTH);
-    compare_other(cells, case, setup, seed, sum(n, more), n);
+    compare_other(rt, cells, case, setup, seed, sum(n, more), n);
     let other = setups::pick_like(cells, setup);
-    compare_other(cells, case, other, seed, n, ROOM);
+    compare_other(rt, cells, case, other, seed, n, ROOM);
     if other.words != setup.words {
         state::add(cells, OTHER_BLOCKS, 1);
     }
 }
 
 // A list, by the model and by the entry.
-fn list_case(cells: &mut Cells, case: u32) {
+fn list_case(rt: &impl Print, cells: &mut Cells, case: u32) {
     state::begin(cells);
     let setup = setups::pick_setup(cells);
     let seed = setups::pick_seed(cells);
@@ -75,34 +83,39 @@ fn list_case(cells: &mut Cells, case: u32) {
     let refusal = entry::generate(cells, setup, seed, n, REAL);
     let unlike = differences(cells, WANTED, REAL, ROOM);
     let what = difference(expected, refusal, unlike);
-    state::record(cells, LIST, case, expected, what);
+    state::record(rt, cells, LIST, case, expected, what);
     if expected == 0 {
         state::add(cells, state::REQUESTS, quotient(n, WIDTH));
-        compare_others(cells, case, setup, seed, n);
+        compare_others(rt, cells, case, setup, seed, n);
     }
 }
 
-fn lists(cells: &mut Cells, n: u32) {
+fn lists(rt: &impl Print, cells: &mut Cells, n: u32) {
     let mut k = 0;
     while k < n {
-        list_case(cells, k);
+        list_case(rt, cells, k);
         k += 1;
     }
 }
 
-fn print_all(cells: &Cells) {
-    state::print_kind(cells, LIST, b"list");
-    state::print_cell(cells, b"requests compared ", state::REQUESTS);
-    state::print_cell(cells, b"longer lists and other boards ", state::COMPARED);
-    state::print_cell(cells, b"of them with other blocks ", OTHER_BLOCKS);
-    state::print_cell(cells, b"differences ", state::DIFFERENCES);
+fn print_all(rt: &impl Print, cells: &Cells) {
+    state::print_kind(rt, cells, LIST, b"list");
+    state::print_cell(rt, cells, b"requests compared ", state::REQUESTS);
+    state::print_cell(
+        rt,
+        cells,
+        b"longer lists and other boards ",
+        state::COMPARED,
+    );
+    state::print_cell(rt, cells, b"of them with other blocks ", OTHER_BLOCKS);
+    state::print_cell(rt, cells, b"differences ", state::DIFFERENCES);
 }
 
-fn main() {
+fn main(rt: HostRuntime) {
     let mut cells = [0u32; trials_cells::cells::SIZE];
     state::set_seed(&mut cells, FIRST_SEED);
     layout::put_pattern(&mut cells);
-    lists(&mut cells, LISTS);
-    shown::print_requests(&mut cells);
-    print_all(&cells);
+    lists(&rt, &mut cells, LISTS);
+    shown::print_requests(&rt, &mut cells);
+    print_all(&rt, &cells);
 }

@@ -10,22 +10,22 @@ use trials_cells::state;
 const REQUESTS: u32 = 4;
 
 // The draw after x.
-fn print_draw(cells: &mut Cells, x: u32) -> u32 {
+fn print_draw(rt: &impl Print, cells: &mut Cells, x: u32) -> u32 {
     let next = model::draw_after(x);
     put(cells, WANTED, 0, next);
-    state::print_cell(cells, b"draw ", WANTED);
+    state::print_cell(rt, cells, b"draw ", WANTED);
     next
 }
 
 // The request whose numbers begin at `first`.
-fn print_request(cells: &Cells, first: u32) {
-    state::print_cell(cells, b"processor ", first);
-    state::print_cell(cells, b"  writes ", sum(first, 1));
-    state::print_cell(cells, b"  variable ", sum(first, 2));
-    state::print_cell(cells, b"  value ", sum(first, 3));
+fn print_request(rt: &impl Print, cells: &Cells, first: u32) {
+    state::print_cell(rt, cells, b"processor ", first);
+    state::print_cell(rt, cells, b"  writes ", sum(first, 1));
+    state::print_cell(rt, cells, b"  variable ", sum(first, 2));
+    state::print_cell(rt, cells, b"  value ", sum(first, 3));
 }
 
-pub(crate) fn print_requests(cells: &mut Cells) {
+pub(crate) fn print_requests(rt: &impl Print, cells: &mut Cells) {
     let board = Setup {
         processors: 4,
         lines: 8,
@@ -38,10 +38,10 @@ pub(crate) fn print_requests(cells: &mut Cells) {
     let mut x = KNOWN_SEED;
     let mut t = 0;
     while t < REQUESTS {
-        x = print_draw(cells, x);
-        x = print_draw(cells, x);
-        x = print_draw(cells, x);
-        print_request(cells, sum(OTHER, product(t, WIDTH)));
+        x = print_draw(rt, cells, x);
+        x = print_draw(rt, cells, x);
+        x = print_draw(rt, cells, x);
+        print_request(rt, cells, sum(OTHER, product(t, WIDTH)));
         t += 1;
     }
 }

@@ -47,7 +47,7 @@ fn by_numbers(cells: &mut Cells, setup: Setup, seed: u32, requests: [Request; RE
 }
 
 // The k-th list, both ways; what is lent is a list that is drawn.
-pub(crate) fn generate_case(cells: &mut Cells, k: u32) {
+pub(crate) fn generate_case(rt: &impl Print, cells: &mut Cells, k: u32) {
     state::begin(cells);
     let setup = any_setup(cells);
     let seed = any_seed(cells);
@@ -55,5 +55,5 @@ pub(crate) fn generate_case(cells: &mut Cells, k: u32) {
     sides::clear(cells);
     by_numbers(cells, setup, seed, requests);
     by_records(cells, setup, seed, requests);
-    sides::judge(cells, GENERATE, k);
+    sides::judge(rt, cells, GENERATE, k);
 }

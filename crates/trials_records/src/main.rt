@@ -23,48 +23,48 @@ const PRICES: u32 = 4000;
 const GENERATED: u32 = 4000;
 
 // The runs go on over the tables and the account that the last one left.
-fn all_runs(cells: &mut Cells, n: u32) {
+fn all_runs(rt: &impl Print, cells: &mut Cells, n: u32) {
     let mut at = Series {
         tables: board::fresh_tables(),
         account: board::account_of(0),
     };
     let mut k = 0;
     while k < n {
-        at = runs::run_case(cells, k, at);
+        at = runs::run_case(rt, cells, k, at);
         k += 1;
     }
 }
 
-fn all_prices(cells: &mut Cells, n: u32) {
+fn all_prices(rt: &impl Print, cells: &mut Cells, n: u32) {
     let mut k = 0;
     while k < n {
-        prices::price_case(cells, k);
+        prices::price_case(rt, cells, k);
         k += 1;
     }
 }
 
-fn all_generated(cells: &mut Cells, n: u32) {
+fn all_generated(rt: &impl Print, cells: &mut Cells, n: u32) {
     let mut k = 0;
     while k < n {
-        generated::generate_case(cells, k);
+        generated::generate_case(rt, cells, k);
         k += 1;
     }
 }
 
-fn print_all(cells: &Cells) {
-    state::print_kind(cells, state::RUN, b"run");
-    state::print_kind(cells, state::PRICE, b"price");
-    state::print_kind(cells, generated::GENERATE, b"generate");
-    state::print_cell(cells, b"requests taken in runs ", state::REQUESTS);
-    state::print_cell(cells, b"cycles of legal schedules ", state::CYCLES);
-    state::print_cell(cells, b"differences ", state::DIFFERENCES);
+fn print_all(rt: &impl Print, cells: &Cells) {
+    state::print_kind(rt, cells, state::RUN, b"run");
+    state::print_kind(rt, cells, state::PRICE, b"price");
+    state::print_kind(rt, cells, generated::GENERATE, b"generate");
+    state::print_cell(rt, cells, b"requests taken in runs ", state::REQUESTS);
+    state::print_cell(rt, cells, b"cycles of legal schedules ", state::CYCLES);
+    state::print_cell(rt, cells, b"differences ", state::DIFFERENCES);
 }
 
-fn main() {
+fn main(rt: HostRuntime) {
     let mut cells = [0u32; trials_cells::cells::SIZE];
     state::set_seed(&mut cells, FIRST_SEED);
-    all_runs(&mut cells, RUNS);
-    all_prices(&mut cells, PRICES);
-    all_generated(&mut cells, GENERATED);
-    print_all(&cells);
+    all_runs(&rt, &mut cells, RUNS);
+    all_prices(&rt, &mut cells, PRICES);
+    all_generated(&rt, &mut cells, GENERATED);
+    print_all(&rt, &cells);
 }

@@ -76,7 +76,7 @@ fn lay_priced(cells: &mut Cells, side: u32, priced: Priced) {
 }
 
 // The k-th price, both ways.
-pub(crate) fn price_case(cells: &mut Cells, k: u32) {
+pub(crate) fn price_case(rt: &impl Print, cells: &mut Cells, k: u32) {
     state::begin(cells);
     let entries = lists::price_schedule(cells, k);
     let requests = lists::price_list(cells, k);
@@ -85,5 +85,5 @@ pub(crate) fn price_case(cells: &mut Cells, k: u32) {
     lay_priced(cells, sides::NUMBERS, other);
     let priced = by_records(entries, requests);
     lay_priced(cells, sides::RECORDS, priced);
-    sides::judge(cells, state::PRICE, k);
+    sides::judge(rt, cells, state::PRICE, k);
 }

@@ -138,7 +138,7 @@ fn before_run(cells: &mut Cells, k: u32, last: Series) -> Series {
 }
 
 // The k-th run, both ways: what the one over records leaves.
-pub(crate) fn run_case(cells: &mut Cells, k: u32, last: Series) -> Series {
+pub(crate) fn run_case(rt: &impl Print, cells: &mut Cells, k: u32, last: Series) -> Series {
     state::begin(cells);
     let at = before_run(cells, k, last);
     let requests = lists::run_list(cells, k);
@@ -147,6 +147,6 @@ pub(crate) fn run_case(cells: &mut Cells, k: u32, last: Series) -> Series {
     lay_done(cells, sides::NUMBERS, other);
     let done = by_records(at, requests);
     lay_done(cells, sides::RECORDS, done);
-    sides::judge(cells, state::RUN, k);
+    sides::judge(rt, cells, state::RUN, k);
     done.at
 }

@@ -160,12 +160,12 @@ fn difference(cells: &Cells) -> u32 {
 }
 
 // A case of a kind ended as the sides say. The requests taken and the cost are added up, of the entry over records.
-pub(crate) fn judge(cells: &mut Cells, kind: u32, case: u32) {
+pub(crate) fn judge(rt: &impl Print, cells: &mut Cells, kind: u32, case: u32) {
     let what = difference(cells);
     let refusal = get(cells, RECORDS, REFUSAL);
     let taken = get(cells, RECORDS, TAKEN);
     let cost = get(cells, RECORDS, COST);
-    state::record(cells, kind, case, refusal, what);
+    state::record(rt, cells, kind, case, refusal, what);
     state::add(cells, state::REQUESTS, taken);
     state::add(cells, state::CYCLES, cost);
 }

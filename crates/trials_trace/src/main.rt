@@ -45,7 +45,7 @@ fn accounts_differ(a: Account, b: Account) -> bool {
 }
 
 // A trace, by the model and by the entry.
-fn trace_case(cells: &mut Cells, case: u32) {
+fn trace_case(rt: &impl Print, cells: &mut Cells, case: u32) {
     state::begin(cells);
     let n = text::put_trace(cells);
     let lending = text::pick_lending(cells);
@@ -53,21 +53,21 @@ fn trace_case(cells: &mut Cells, case: u32) {
     let expected = reading::count(cells, lending, n);
     let counted = entry::count(cells, lending, n, case);
     let what = differs(expected, counted);
-    state::record(cells, state::TRACE, case, expected.refusal, what);
+    state::record(rt, cells, state::TRACE, case, expected.refusal, what);
 }
 
-fn traces(cells: &mut Cells, n: u32) {
+fn traces(rt: &impl Print, cells: &mut Cells, n: u32) {
     let mut k = 0;
     while k < n {
-        trace_case(cells, k);
+        trace_case(rt, cells, k);
         k += 1;
     }
 }
 
-fn main() {
+fn main(rt: HostRuntime) {
     let mut cells = [0u32; trials_cells::cells::SIZE];
     state::set_seed(&mut cells, FIRST_SEED);
-    traces(&mut cells, CASES);
-    state::print_kind(&cells, state::TRACE, b"trace");
-    state::print_cell(&cells, b"differences ", state::DIFFERENCES);
+    traces(&rt, &mut cells, CASES);
+    state::print_kind(&rt, &cells, state::TRACE, b"trace");
+    state::print_cell(&rt, &cells, b"differences ", state::DIFFERENCES);
 }
