@@ -1,6 +1,7 @@
 -- The first condition met gives the number: 1, then 2, then 5.
 use mathlib.Core.Path.{sym, ◌∙◌}
-use borrow.Author.Tests.{eq-eqb, ne_eqb}
+use Rattle.std.proofs.Common.{rules}
+use borrow.Author.Tests.{ne_eqb}
 use Rattle.protocol_types.specs.Refusals.{no_refusal}
 use Rattle.protocol.specs.Pricer.{price_refusal}
 use Rattle.protocol_types.proofs.Board.{setup-fits}
@@ -15,23 +16,12 @@ is_sized-fit-requires c = setup-fits c.args.setup (sym c.refusal-refusal.ensures
 
 pub returns-then-not-fit : goal.returns-then-not-fit
 unfolding price_refusal
-returns-then-not-fit c =
-    let first = c.refusal-refusal in
-    let sized = c.is_sized-fit in
-    rw (← first.ensures, eq-eqb first.result no_refusal c.if-refusal-ne-NO_REFUSAL.false, ← sized.ensures, c.if-not-fit.true)
+returns-then-not-fit c = search rules
 
 pub returns-then-not-few : goal.returns-then-not-few
 unfolding price_refusal
-returns-then-not-few c =
-    let first = c.refusal-refusal in
-    let sized = c.is_sized-fit in
-    let few = c.few_enough-few in
-    rw (← first.ensures, eq-eqb first.result no_refusal c.if-refusal-ne-NO_REFUSAL.false, ← sized.ensures, c.if-not-fit.false, ← few.ensures, c.if-not-few.true)
+returns-then-not-few c = search rules
 
 pub returns : goal.returns
 unfolding price_refusal
-returns c =
-    let first = c.refusal-refusal in
-    let sized = c.is_sized-fit in
-    let few = c.few_enough-few in
-    rw (← first.ensures, eq-eqb first.result no_refusal c.if-refusal-ne-NO_REFUSAL.false, ← sized.ensures, c.if-not-fit.false, ← few.ensures, c.if-not-few.false)
+returns c = search rules
