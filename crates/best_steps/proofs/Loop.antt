@@ -12,11 +12,11 @@ use native.Mathlib.Omega.{arith}
 use lib.ListN.{length, get_or, set, take, drop, length-set}
 use native.Mathlib.Numerals.{add-one}
 use lib.Dec.{ltb, eqb}
-use borrow.Author.Tests.{ltb-true, ltb-false, lt-ltb, eqb-true, eqb-false, eq-eqb, ne_eqb}
+use borrow.Author.Tests.{ltb-true, ltb-false, eqb-true, eqb-false, eq-eqb, ne_eqb}
 use Rattle.protocol_types.specs.Lists.{at, zeros}
 use Rattle.protocol_types.specs.Refusals.{no_refusal, first_of}
 use Rattle.protocol_types.specs.Conditions.{request_refusal}
-use Rattle.protocol_types.proofs.Laws.{Same, same, apart, same?, choice}
+use Rattle.protocol_types.proofs.Laws.{choice}
 use Rattle.protocol_types.proofs.Refusals.{neither-refuses}
 use Rattle.protocol_types.proofs.Conditions.{no-request}
 use Rattle.best_positions.specs.Position.{asked, asked_all, entry_from}
@@ -30,8 +30,6 @@ use Rattle.protocol_types.specs.declared.Request.{Request}
 use Rattle.protocol_types.specs.declared.Entry.{Entry}
 use Rattle.protocol_types.specs.declared.Entry.TheVariants.{Complete}
 use Rattle.protocol_types.specs.declared.BestSchedule.{BestSchedule}
-use Rattle.protocol_types.specs.declared.BestAnswer.{BestAnswer}
-use Rattle.protocol_types.specs.declared.BestAnswer.TheVariants.{Found, Refused}
 use Rattle.best_steps.specs.Steps.{BestStage, best_stage, stopped, asking_at, storing_at, search_done, begun, asks_with, took, turned, Asking}
 use Rattle.best_steps.specs.declared.BestProgress.{BestProgress}
 use Rattle.best_steps.proofs.Checks.{checked, tables-sized}

@@ -6,12 +6,11 @@ use Rattle.protocol_types.specs.Board.{Fits}
 use Rattle.protocol_types.specs.Conditions.{request_refusal}
 use Rattle.best_positions.specs.Position.{asked}
 use Rattle.best_positions.specs.Position.{entry_from}
-use Rattle.best_positions.specs.Best.{SearchTables, search_tables, position_count, group_count, search_sized, search_refusal}
+use Rattle.best_positions.specs.Best.{SearchTables, position_count, group_count, search_sized, search_refusal}
 use Rattle.best_schedule.specs.Found.{best_found, tables_after}
 use Rattle.best_schedule.specs.Lent.{TablesFit}
 use Rattle.protocol_types.specs.declared.Setup.{Setup}
 use Rattle.protocol_types.specs.declared.Request.{Request}
-use Rattle.protocol_types.specs.declared.Entry.{Entry}
 use Rattle.protocol_types.specs.declared.Entry.TheVariants.{Complete}
 use Rattle.protocol_types.specs.declared.BestSchedule.{BestSchedule}
 use Rattle.protocol_types.specs.declared.BestAnswer.TheVariants.{Found, Refused}
