@@ -56,7 +56,7 @@ fn other_holds(
 
 // The lowest-numbered other holder; the number of processors where there is none.
 // It counts processors in a byte, as the search for the payer does (document 02, P3). A byte is enough, because the count ends at N and N is at most 8
-// (`few-processors` of `Fits`): `add-other` in proofs/other_holder proves that the next number always fits.
+// (`few-processors` of `Fits`): `overflow_add-other` in proofs/other_holder proves that the next number always fits.
 fn other_holder(setup: Setup, processor: u32, block: Block, blocks: &[u32], counters: &[u32]) -> u32
     requires fits { Fits setup }
     requires per_slot { PerSlot setup blocks.now × PerSlot setup counters.now }

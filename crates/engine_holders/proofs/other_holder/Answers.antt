@@ -1,5 +1,5 @@
 -- At each number the search of what is left finds what the whole search finds (protocol's laws of searches); it ends at the first other holder, or at the
--- number of processors. These are at most 8 (`few-processors`), so a byte holds the next number too (`add-other`).
+-- number of processors. These are at most 8 (`few-processors`), so a byte holds the next number too (`overflow_add-other`).
 use mathlib.Core.Path.{◌≡◌, ◌∙◌}
 use native.Mathlib.Omega.{arith}
 use Rattle.protocol.specs.Tables.{tables}

@@ -1,6 +1,5 @@
 -- There is a payer exactly if another cache holds the block (payer-sharing); it holds the block (payer-found), so its counter is at least 1 (holder-slot).
 -- The writer keeps its copy, so only the payer's bit can change, and it does where the payer's line becomes empty.
--- processor i holds block b at slot k
 use Prim.Native.Nat.{ℕ, ◌≤◌, ◌<◌}
 use mathlib.Core.Path.{◌≡◌, refl, sym, ap, ◌∙◌}
 use mathlib.Core.Logic.{◌≢◌}
@@ -22,6 +21,7 @@ use Rattle.protocol.proofs.Masks.{mask-read, length-masks}
 use Rattle.engine_masks.proofs.Rules.{masks-recounted, masks-charged, masks-charged-empty}
 use Rattle.engine_writes.proofs.write.Goals as goal
 
+-- processor i holds block b at slot k
 module _ (s : Setup) (ok : Fits s) (t : Tables) (i : ℕ) (b : Block) (held : holds s t i b ≡ true) (k : ℕ) (is-k : k ≡ slot s i b) (o x : ℕ) where
   has-copy : 0 < counter t k
   has-copy = rw is-k (holder-slot s t i b held).0
