@@ -4,7 +4,6 @@ use Rattle.protocol.specs.Tables.{Tables}
 use Rattle.protocol_types.specs.declared.Setup.{Setup}
 use Rattle.protocol_types.specs.declared.Block.{Block}
 use Rattle.protocol_types.specs.declared.Account.{Account}
-use Rattle.host_numbers.specs.Numbers.{account_of}
 use Rattle.trace_lines.specs.Trace.{Ended}
 
 -- it counts the changes of the exported functions' signatures and meanings, and the functions that are added, from 1 on
