@@ -1,6 +1,6 @@
 -- The loop of the search for the best schedule over a list of entries: best_steps' laws of a list of any elements, at this one. Assumes nothing.
 use Prim.Native.Nat.{ℕ, zero, suc, ◌<◌}
-use mathlib.Core.Path.{◌≡◌, refl, sym, ap, ◌∙◌}
+use mathlib.Core.Path.{◌≡◌, refl, ap, ◌∙◌}
 use mathlib.Core.Logic.{◌≢◌}
 use mathlib.Core.Bool.{true, false, cond}
 use mathlib.Core.List.{List, [], ◌∷◌, ◌++◌}
@@ -8,7 +8,7 @@ use native.Mathlib.Omega.{arith}
 use lib.ListN.{length, get_or, set, take, drop}
 use lib.Dec.{eqb}
 use Rattle.protocol_types.specs.Refusals.{no_refusal}
-use Rattle.best_positions.specs.Best.{SearchTables, search_tables, search_sized, best_refusal, schedule, best_answer, best_list}
+use Rattle.best_positions.specs.Best.{SearchTables, search_sized, best_refusal, schedule, best_answer, best_list}
 use Rattle.protocol_types.specs.declared.Setup.{Setup}
 use Rattle.protocol_types.specs.declared.Request.{Request}
 use Rattle.protocol_types.specs.declared.Entry.{Entry}
