@@ -3,7 +3,6 @@ use mathlib.Core.Path.{refl, sym, ap, ◌∙◌}
 use mathlib.Core.List.{List, ◌∷◌}
 use native.Mathlib.Omega.{arith}
 use lib.ListN.{length}
-use Rattle.protocol_types.proofs.Laws.{failed, passed}
 use Rattle.best_search.specs.Search.{Tried, past, relaxed, closed, onward}
 use Rattle.best_positions.specs.Position.{board, served_of}
 use Rattle.best_positions.proofs.Schedules.{next-lt}
@@ -36,7 +35,7 @@ returns-then-not-legal_at c =
     let v = a.predecessors.now in
     let k = c.passed in (
       λ ts l. let t = state_at d o v a.p ts in
-          moved_by g t (past t ts) d o v k.result (tick-skip a.setup a.asks.now t c.if-k-ge18.false (failed c.legal_at.ensures c.if-not-legal_at.true-raw))
+          moved_by g t (past t ts) d o v k.result (tick-skip a.setup a.asks.now t c.if-k-ge18.false (sym c.legal_at.ensures ∙ c.if-not-legal_at.true))
           (ap (λ us. state_at d o v k.result us) (past-tries t ts) ∙ k.ensures.0 d o v ts ts) (ap length (past-tries t ts) ∙ l ∙ sym k.ensures.1),
       z.12,
     )
@@ -45,7 +44,7 @@ pub try_entry-requires : goal.try_entry-requires
 try_entry-requires c =
     let a = c.args in
     let z = c.requires in
-    let legal = passed c.legal_at.ensures c.if-not-legal_at.false-raw in (
+    let legal = sym c.legal_at.ensures ∙ c.if-not-legal_at.false in (
       z.2,
       z.4,
       z.5,
@@ -68,7 +67,7 @@ returns c =
     let o = a.order.now in
     let v = a.predecessors.now in
     let k = c.try_entry in
-    let legal = passed c.legal_at.ensures c.if-not-legal_at.false-raw in (
+    let legal = sym c.legal_at.ensures ∙ c.if-not-legal_at.false in (
       λ ts l. let t = state_at d o v a.p ts in
           let us : List Tried = record { position = a.p.current; code = a.p.code } ∷ ts in
           moved_by g t (past (relaxed g t) us) k.new.distances o k.new.predecessors k.result (tick-try a.setup a.asks.now t c.if-k-ge18.false legal)

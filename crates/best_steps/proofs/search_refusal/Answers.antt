@@ -1,7 +1,6 @@
 -- The first condition met gives the number.
-use mathlib.Core.Path.{refl, sym, ◌∙◌}
+use mathlib.Core.Path.{sym, ◌∙◌}
 use Rattle.protocol_types.proofs.Refusals.{code-refuses}
-use Rattle.protocol_types.proofs.Laws.{failed, passed}
 use Rattle.best_positions.specs.Best.{search_refusal}
 use Rattle.best_steps.proofs.search_refusal.Goals as goal
 
@@ -13,12 +12,12 @@ returns-then-refusal-ne-NO_REFUSAL c =
 
 pub returns-then-not-is_searchable : goal.returns-then-not-is_searchable
 unfolding search_refusal
-returns-then-not-is_searchable c = rw (sym c.refusal-refusal.ensures ∙ c.if-refusal-ne-NO_REFUSAL.false, failed c.is_searchable.ensures c.if-not-is_searchable.true-raw)
+returns-then-not-is_searchable c = rw (sym c.refusal-refusal.ensures ∙ c.if-refusal-ne-NO_REFUSAL.false, sym c.is_searchable.ensures ∙ c.if-not-is_searchable.true)
 
 pub returns-then-not-fits : goal.returns-then-not-fits
 unfolding search_refusal
-returns-then-not-fits c = rw (sym c.refusal-refusal.ensures ∙ c.if-refusal-ne-NO_REFUSAL.false, passed c.is_searchable.ensures c.if-not-is_searchable.false-raw, failed {t = c.args.fits} refl c.if-not-fits.true-raw)
+returns-then-not-fits c = rw (sym c.refusal-refusal.ensures ∙ c.if-refusal-ne-NO_REFUSAL.false, sym c.is_searchable.ensures ∙ c.if-not-is_searchable.false, c.if-not-fits.true)
 
 pub returns : goal.returns
 unfolding search_refusal
-returns c = rw (sym c.refusal-refusal.ensures ∙ c.if-refusal-ne-NO_REFUSAL.false, passed c.is_searchable.ensures c.if-not-is_searchable.false-raw, passed {t = c.args.fits} refl c.if-not-fits.false-raw)
+returns c = rw (sym c.refusal-refusal.ensures ∙ c.if-refusal-ne-NO_REFUSAL.false, sym c.is_searchable.ensures ∙ c.if-not-is_searchable.false, c.if-not-fits.false)

@@ -3,7 +3,6 @@ use Prim.Native.Nat.{◌+◌}
 use mathlib.Core.Path.{sym, ap, ◌∙◌}
 use native.Mathlib.Omega.{arith}
 use Rattle.protocol_types.specs.Lists.{at}
-use Rattle.protocol_types.proofs.Laws.{failed, passed}
 use Rattle.best_search.specs.Search.{past}
 use Rattle.best_lowest.specs.Lowest.{lowest_of}
 use Rattle.best_tries.specs.Progress.{state_at}
@@ -17,7 +16,7 @@ returns-then-not-falls c =
     let v = a.predecessors.now in (
       λ g eighteen to cost last o ts us. c.passed.ensures.0 d o v ts us
           ∙ ap (λ q. past q us) (relaxed-not g (state_at d o v a.p ts) a.w (at d a.p.current + a.price) to (ap (λ z. at d a.p.current + z) cost)
-          (failed c.falls.ensures c.if-not-falls.true-raw)),
+          (sym c.falls.ensures ∙ c.if-not-falls.true)),
       c.passed.ensures.1,
       λ o free e. e,
     )
@@ -29,7 +28,7 @@ returns c =
     let d = a.distances.now in
     let v = a.predecessors.now in
     let k = c.reach in
-    let f = passed c.falls.ensures c.if-not-falls.false-raw in
+    let f = sym c.falls.ensures ∙ c.if-not-falls.false in
     let n = at d a.p.current + a.price in (
       λ g eighteen to cost last o ts us. (λ i. state_at (k.ensures.0 i) o (k.ensures.1 i) c.lowered.result us)
           ∙ c.lowered.ensures.0 g eighteen last d o v ts us

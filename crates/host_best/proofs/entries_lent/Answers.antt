@@ -1,12 +1,12 @@
 -- No entry where a list is not whole.
-use Rattle.protocol_types.proofs.Laws.{failed, passed}
+use mathlib.Core.Path.{sym, ◌∙◌}
 use Rattle.host_best.specs.Numbers.{entries_lent}
 use Rattle.host_best.proofs.entries_lent.Goals as goal
 
 pub returns-then-not-are_whole : goal.returns-then-not-are_whole
 unfolding entries_lent
-returns-then-not-are_whole c = rw (failed c.are_whole.ensures c.if-not-are_whole.true-raw)
+returns-then-not-are_whole c = rw (sym c.are_whole.ensures ∙ c.if-not-are_whole.true)
 
 pub returns : goal.returns
 unfolding entries_lent
-returns c = rw (passed c.are_whole.ensures c.if-not-are_whole.false-raw) c.entry_count.ensures
+returns c = rw (sym c.are_whole.ensures ∙ c.if-not-are_whole.false) c.entry_count.ensures
