@@ -155,7 +155,7 @@ fn trace_errors() {
 fn version() {
     // SAFETY: takes nothing.
     let archive = unsafe { raw::cuzkelor_version() };
-    assert_eq!((archive, raw::CUZKELOR_VERSION), (7, 7));
+    assert_eq!((archive, raw::CUZKELOR_VERSION), (6, 6));
 }
 
 #[test]
