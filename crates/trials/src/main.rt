@@ -60,30 +60,49 @@ fn prices(rt: &impl Print, cells: &mut Cells, n: u32) {
 // The looks, by whether the block was held.
 fn print_looks(rt: &impl Print, cells: &Cells) {
     state::print_cases(rt, cells, state::LOOK, b"look");
-    state::print_cell(rt, cells, b"look empty: ", state::count_place(state::LOOK, 0));
-    state::print_cell(rt, cells, b"look held: ", state::count_place(state::LOOK, 1));
+    state::print_cell(
+        rt,
+        cells,
+        b"look empty: ",
+        state::count_place(state::LOOK, 0),
+    );
+    state::print_cell(
+        rt,
+        cells,
+        b"look held: ",
+        state::count_place(state::LOOK, 1),
+    );
 }
 
 fn print_sums(rt: &impl Print, cells: &Cells) {
     state::print_cell(rt, cells, b"requests served in runs ", state::REQUESTS);
     state::print_cell(rt, cells, b"cycles billed in runs ", state::CYCLES);
-    state::print_cell(rt, 
+    state::print_cell(
+        rt,
         cells,
         b"runs refused for a false mask alone ",
         state::FALSE_MASKS,
     );
-    state::print_cell(rt, 
+    state::print_cell(
+        rt,
         cells,
         b"schedules compared with the engine ",
         state::COMPARED,
     );
-    state::print_cell(rt, cells, b"of them cheaper than the engine ", state::CHEAPER);
-    state::print_cell(rt, 
+    state::print_cell(
+        rt,
+        cells,
+        b"of them cheaper than the engine ",
+        state::CHEAPER,
+    );
+    state::print_cell(
+        rt,
         cells,
         b"of them with fetch and update cycles equal to its fetch cycles ",
         state::MET,
     );
-    state::print_cell(rt, 
+    state::print_cell(
+        rt,
         cells,
         b"of them with those equal to its update and write-back cycles ",
         state::MET_UPDATES,

@@ -303,7 +303,14 @@ fn met(cycles: u32, play: Play) -> bool {
 
 // The engine's bill for n requests beside the cost of a legal schedule for them. The account is the model's, which the
 // entry's was compared with.
-fn note_compared(rt: &impl Print, cells: &mut Cells, judged: Judged, n: u32, play: Play, case: u32) {
+fn note_compared(
+    rt: &impl Print,
+    cells: &mut Cells,
+    judged: Judged,
+    n: u32,
+    play: Play,
+    case: u32,
+) {
     let account = judged.account;
     run_trials::note_run(rt, cells, judged, setups::fresh_account(), case);
     state::add(cells, state::COMPARED, 1);

@@ -331,7 +331,13 @@ fn pick_plan(cells: &mut Cells, at: Series) -> Plan {
 }
 
 // What a run came to is noted.
-pub(crate) fn note_run(rt: &impl Print, cells: &mut Cells, judged: Judged, before: Account, case: u32) {
+pub(crate) fn note_run(
+    rt: &impl Print,
+    cells: &mut Cells,
+    judged: Judged,
+    before: Account,
+    case: u32,
+) {
     let after = judged.account;
     state::record(rt, cells, state::RUN, case, judged.refusal, judged.what);
     state::add(
