@@ -230,19 +230,22 @@ fn cases(rt: &impl Print, cells: &mut Cells, n: u32) {
 
 fn print_all(rt: &impl Print, cells: &Cells) {
     state::print_kind(rt, cells, LIST, b"list");
-    state::print_cell(rt, 
+    state::print_cell(
+        rt,
         cells,
         b"requests of lists that were searched ",
         state::REQUESTS,
     );
-    state::print_cell(rt, 
+    state::print_cell(
+        rt,
         cells,
         b"lists with a schedule cheaper than the engine's own ",
         BETTERED,
     );
     state::print_cell(rt, cells, b"searches compared ", SEARCHES);
     state::print_cell(rt, cells, b"of them called least ", CALLED_LEAST);
-    state::print_cell(rt, 
+    state::print_cell(
+        rt,
         cells,
         b"of the others cheaper than the engine's own ",
         CHEAPER,
