@@ -3,3 +3,4 @@ pub mod Bits
 pub mod Refusals
 pub mod Board
 pub mod Conditions
+pub mod Answers

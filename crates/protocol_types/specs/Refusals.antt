@@ -1,5 +1,7 @@
 -- The refusal numbers (document 01, "Refused for what came in" and "Refused for how things stand").
-use Rattle.std.specs.Prelude.{ℕ, Bool, cond, eqb}
+use Rattle.std.specs.Prelude.{ℕ, Bool, cond, eqb, Result, Ok, Err}
+use Rattle.protocol_types.specs.declared.Refusal.{Refusal}
+use Rattle.protocol_types.specs.declared.Refusal.TheVariants.{SetupOutOfRange, WrongLength, NoSuchProcessor, NoSuchVariable, TooMany, MalformedLine, UnknownLabel, NoSuchBlock, BroadcastWithoutWrite, PriceOutOfRange, SeedZero, NotSearchable, UnsoundTables, ImpossibleAccount, AccountFull, LineInUse, BlockNotHeld, DropOfMarked, NoRequestLeft, CompletionNotHeld, RequestsLeft, CacheNotEmpty}
 
 -- where no condition is met, nothing is refused
 abbrev pub no_refusal : ℕ
@@ -104,3 +106,38 @@ requests_left = 28
 -- 29: completing a clear while that cache holds a block (document 02, P6)
 abbrev pub cache_not_empty : ℕ
 cache_not_empty = 29
+
+-- ---- of the refusals that the code names
+
+abbrev pub number : Refusal → ℕ
+number SetupOutOfRange = setup_out_of_range
+number WrongLength = wrong_length
+number NoSuchProcessor = no_such_processor
+number NoSuchVariable = no_such_variable
+number TooMany = too_many
+number MalformedLine = malformed_line
+number UnknownLabel = unknown_label
+number NoSuchBlock = no_such_block
+number BroadcastWithoutWrite = broadcast_without_write
+number PriceOutOfRange = price_out_of_range
+number SeedZero = seed_zero
+number NotSearchable = not_searchable
+number UnsoundTables = unsound_tables
+number ImpossibleAccount = impossible_account
+number AccountFull = account_full
+number LineInUse = line_in_use
+number BlockNotHeld = block_not_held
+number DropOfMarked = drop_of_marked
+number NoRequestLeft = no_request_left
+number CompletionNotHeld = completion_not_held
+number RequestsLeft = requests_left
+number CacheNotEmpty = cache_not_empty
+
+-- of what a check answers, or, where it refuses nothing, of the conditions after it
+abbrev pub refusal_before : {A : Type 0} → Result A Refusal → ℕ → ℕ
+refusal_before (Ok x) after = after
+refusal_before (Err r) after = number r
+
+-- of what a check answers; 0 where it refuses nothing
+abbrev pub refusal_number : {A : Type 0} → Result A Refusal → ℕ
+refusal_number r = refusal_before r no_refusal

@@ -1,8 +1,9 @@
 // The types of the board, the engine and the rival, the refusal numbers, and the methods of a setup. The rules are in protocol.
 #![tactic(auto)]
 
-ghost use Rattle.std.specs.Prelude.{◌≡◌, ◌*◌, ◌<◌};
+ghost use Rattle.std.specs.Prelude.{◌≡◌, ℕ, ◌*◌, ◌<◌};
 ghost use Rattle.protocol_types.specs.Board.{within, sizes_in_range, prices_in_range, setup_refusal, fetch_price, write_back_price, most_write_back, Fits, variables, block_of, offset_of, line_of, slots, line_slot, Placed};
+ghost use Rattle.protocol_types.specs.Refusals.{number, refusal_number, refusal_before};
 ghost use Rattle.protocol_types.specs.Conditions.{variable_refusal, named_refusal, request_refusal};
 
 // The refusal numbers.
@@ -51,6 +52,48 @@ pub const COMPLETION_NOT_HELD: u32 = 27;
 pub const REQUESTS_LEFT: u32 = 28;
 
 pub const CACHE_NOT_EMPTY: u32 = 29;
+
+// Why something is refused. Each refusal's number is the documents'.
+#[derive(Clone, Copy, PartialEq, Eq)]
+pub enum Refusal {
+    SetupOutOfRange = 1,
+    WrongLength = 2,
+    NoSuchProcessor = 3,
+    NoSuchVariable = 4,
+    TooMany = 5,
+    MalformedLine = 6,
+    UnknownLabel = 7,
+    NoSuchBlock = 8,
+    BroadcastWithoutWrite = 9,
+    PriceOutOfRange = 10,
+    SeedZero = 11,
+    NotSearchable = 12,
+    UnsoundTables = 20,
+    ImpossibleAccount = 21,
+    AccountFull = 22,
+    LineInUse = 23,
+    BlockNotHeld = 24,
+    DropOfMarked = 25,
+    NoRequestLeft = 26,
+    CompletionNotHeld = 27,
+    RequestsLeft = 28,
+    CacheNotEmpty = 29,
+}
+
+impl Refusal {
+    pub fn number(self) -> u32
+        ensures { result ≡ number self }
+    {
+        self as u32
+    }
+}
+
+// A refusal, and the place that it names.
+#[derive(Clone, Copy)]
+pub struct PlacedRefusal {
+    pub refusal: Refusal,
+    pub place: usize,
+}
 
 // The most requests that an account or the pricer takes, and the generator makes.
 pub const REQUEST_LIMIT: u32 = 1000000;
@@ -125,6 +168,19 @@ impl Setup {
             return PRICE_OUT_OF_RANGE;
         }
         NO_REFUSAL
+    }
+
+    // Whether the setup is refused: 1, 10 in this order.
+    pub fn check(self) -> Result<(), Refusal>
+        ensures { refusal_number result ≡ setup_refusal self }
+    {
+        if !self.sizes_in_range() {
+            return Err(Refusal::SetupOutOfRange);
+        }
+        if !self.prices_in_range() {
+            return Err(Refusal::PriceOutOfRange);
+        }
+        Ok(())
     }
 
     // The cycles of a fetch, which is also a full counter.
@@ -239,6 +295,44 @@ impl Setup {
             Operation::Write(v, _) => self.variable_refusal(v, next),
             Operation::Clear => next,
         }
+    }
+
+    // Whether a variable is refused: 4 if it is not below M × p.
+    fn check_variable(self, variable: Variable) -> Result<(), Refusal>
+        requires { Fits self }
+        ensures { (after : ℕ) → refusal_before result after ≡ variable_refusal self variable after }
+    {
+        if variable.0 >= self.variable_count() {
+            return Err(Refusal::NoSuchVariable);
+        }
+        Ok(())
+    }
+
+    // Whether the variable that an operation names is refused.
+    pub fn check_named(self, operation: Operation) -> Result<(), Refusal>
+        requires { Fits self }
+        ensures { (after : ℕ) → refusal_before result after ≡ named_refusal self operation after }
+    {
+        match operation {
+            Operation::Read(v) => self.check_variable(v),
+            Operation::Write(v, _) => self.check_variable(v),
+            Operation::Clear => Ok(()),
+        }
+    }
+
+    // Whether a request is refused where `taken` were taken before: 3, 4, 22 in this order.
+    pub fn check_request(self, taken: u32, request: Request) -> Result<(), Refusal>
+        requires { Fits self }
+        ensures { refusal_number result ≡ request_refusal self taken request }
+    {
+        if request.processor >= self.processors {
+            return Err(Refusal::NoSuchProcessor);
+        }
+        self.check_named(request.operation)?;
+        if taken >= REQUEST_LIMIT {
+            return Err(Refusal::AccountFull);
+        }
+        Ok(())
     }
 
     // The refusal number of a request where `taken` were taken before, or 0: 3, 4, 22 in this order.
