@@ -16,10 +16,7 @@ pub fn keeps_at(k: usize, block: Block, blocks: &[u32], held: &[u32]) -> bool
     requires { (k < length blocks.now) × (k < length held.now) }
     ensures { (m : List ℕ) → result ≡ keeps_at (rival_marked blocks.now held.now m) k block }
 {
-    if held[k] != 1 {
-        return false;
-    }
-    blocks[k] == block.0
+    held[k] == 1 && blocks[k] == block.0
 }
 
 // Whether a processor has one.
@@ -46,10 +43,7 @@ fn another_keeps(
     requires blocks_len { (length blocks.now ≡ slots setup) × (length held.now ≡ slots setup) }
     ensures { (m : List ℕ) → result ≡ another_keeps setup (rival_marked blocks.now held.now m) processor block j }
 {
-    if j == processor {
-        return false;
-    }
-    keeps(setup, j, block, blocks, held)
+    j != processor && keeps(setup, j, block, blocks, held)
 }
 
 // Whether another processor has a copy.
@@ -58,15 +52,12 @@ pub fn shared(setup: Setup, processor: u32, block: Block, blocks: &[u32], held: 
     requires blocks_len { (length blocks.now ≡ slots setup) × (length held.now ≡ slots setup) }
     ensures { (m : List ℕ) → result ≡ shared setup (rival_marked blocks.now held.now m) processor block }
 {
-    let n = setup.processors;
-    let mut j = 0;
-    while j < n {
+    for j in 0..setup.processors {
         if another_keeps(setup, processor, block, j, blocks, held) {
-            break;
+            return true;
         }
-        j += 1;
     }
-    j < n
+    false
 }
 
 // ---- what an entry does to the copies
@@ -79,10 +70,9 @@ fn unmark_copy(setup: Setup, block: Block, j: u32, blocks: &[u32], held: &[u32],
     ensures { (m : List ℕ) → marks.new ≡ copy_unmarked setup (rival_marked blocks.now held.now m) block j marks.old }
 {
     let k = setup.slot(j, block);
-    if !keeps_at(k, block, blocks, held) {
-        return;
+    if keeps_at(k, block, blocks, held) {
+        marks[k] = 0;
     }
-    marks[k] = 0;
 }
 
 // A block's mark clears at every processor.
@@ -91,8 +81,7 @@ fn unmark(setup: Setup, block: Block, blocks: &[u32], held: &[u32], marks: &mut 
     requires rival_sized { RivalSized setup (rival_lent blocks.now held.now marks.old) }
     ensures { marks.new ≡ unmarked setup (rival_lent blocks.now held.now marks.old) block setup.processors }
 {
-    let n = setup.processors;
-    for j in 0..n {
+    for j in 0..setup.processors {
         unmark_copy(setup, block, j, blocks, held, marks);
     }
 }
@@ -166,8 +155,7 @@ pub fn play<'a>(
         Entry::Fetch(i, b) => fetch(setup, i, b, blocks, held, marks),
         Entry::WriteBack(i, b) => write_back(setup, i, b, marks),
         Entry::Drop(i, b) => drop(setup, i, b, blocks, held, marks),
-        Entry::Complete => {}
-        Entry::CompleteByBroadcast => {}
+        Entry::Complete | Entry::CompleteByBroadcast => {}
     }
 }
 
@@ -185,11 +173,10 @@ fn mark_lone(
     requires rival_sized { RivalSized setup (rival_lent blocks.now held.now marks.old) }
     ensures { marks.new ≡ lone_marked setup (rival_lent blocks.now held.now marks.old) processor block }
 {
-    if shared(setup, processor, block, blocks, held) {
-        return;
+    if !shared(setup, processor, block, blocks, held) {
+        let k = setup.slot(processor, block);
+        marks[k] = 1;
     }
-    let k = setup.slot(processor, block);
-    marks[k] = 1;
 }
 
 // A completed write marks the block where it has one holder; a read, a clear, and a completion by broadcast change nothing.
@@ -209,13 +196,11 @@ pub fn play_completion(
     if broadcast {
         return;
     }
-    let operation = request.operation;
-    match operation {
-        Operation::Read(_) => {}
+    match request.operation {
+        Operation::Read(_) | Operation::Clear => {}
         Operation::Write(v, _) => {
             let block = setup.block_of(v);
             mark_lone(setup, request.processor, block, blocks, held, marks);
         }
-        Operation::Clear => {}
     }
 }

@@ -5,8 +5,8 @@ use Rattle.rival_copies.proofs.another_keeps.Goals as goal
 
 pub returns-then-j-processor : goal.returns-then-j-processor
 unfolding another_keeps
-returns-then-j-processor c m = rw (eq-eqb c.args.j c.args.processor c.if-j-processor.true)
+returns-then-j-processor c m = rw (ne_eqb c.args.j c.args.processor c.if-j-processor.true) (c.keeps.ensures m)
 
-pub returns : goal.returns
+pub returns-else-j-processor : goal.returns-else-j-processor
 unfolding another_keeps
-returns c m = rw (ne_eqb c.args.j c.args.processor c.if-j-processor.false) (c.keeps.ensures m)
+returns-else-j-processor c m = rw (eq-eqb c.args.j c.args.processor c.if-j-processor.false)

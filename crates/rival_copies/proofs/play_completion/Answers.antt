@@ -13,7 +13,3 @@ returns-in-Read c = search rules
 pub returns-in-Write : goal.returns-in-Write
 unfolding rival_completed
 returns-in-Write c = search rules
-
-pub returns-in-Clear : goal.returns-in-Clear
-unfolding rival_completed
-returns-in-Clear c = search rules

@@ -1,7 +1,8 @@
 -- At j the search of what is left finds what the whole search finds; it ends at the first other copy, or at the number of processors.
 use Prim.Native.Nat.{ℕ}
-use mathlib.Core.Path.{◌≡◌, ap, ◌∙◌}
+use mathlib.Core.Path.{◌≡◌, ap, sym, ◌∙◌}
 use native.Mathlib.Omega.{arith}
+use borrow.Author.Tests.{lt-ltb, le-ltb}
 use lib.Dec.{ltb}
 use Rattle.protocol_types.specs.Lists.{first}
 use Rattle.protocol.specs.Rival.{rival}
@@ -9,7 +10,6 @@ use Rattle.protocol_types.proofs.Search.{search-started, search-found, search-pa
 use Rattle.rival_copies.specs.Copies.{another_keeps}
 use Rattle.rival_copies.proofs.Laws.{shared-is}
 use Rattle.rival_copies.proofs.shared.Goals as goal
-use Rattle.rival_copies.proofs.shared.Goals.{else-loop-j-test, then-loop-j-test+then-another_keeps}
 
 pub loop-j-init : goal.loop-j-init
 loop-j-init c =
@@ -24,17 +24,21 @@ loop-j-preserved c =
           (c.loop-j.invariant.1 m) c.another_keeps.result (omega arith) (c.another_keeps.ensures m) c.if-another_keeps.false,
     )
 
+pub returns-then-another_keeps : goal.returns-then-another_keeps
+returns-then-another_keeps c m =
+    let a = c.args in
+    let r = rival a.blocks.now a.held.now m in
+    let P = another_keeps a.setup r a.processor a.block in
+    let n = a.setup.processors in
+    let e : c.loop-j.j ≡ first n P =
+    search-found P n c.loop-j.j (first n P) (c.loop-j.invariant.1 m) c.another_keeps.result (omega arith) (c.another_keeps.ensures m) c.if-another_keeps.true in
+    sym (lt-ltb c.loop-j.j n (omega arith)) ∙ ap (λ (z : ℕ). ltb z n) e ∙ shared-is a.setup r a.processor a.block
+
 pub returns : goal.returns
 returns c m =
     let a = c.args in
     let r = rival a.blocks.now a.held.now m in
     let P = another_keeps a.setup r a.processor a.block in
     let n = a.setup.processors in
-    let j = c.loop-j.j in
-    let e : j ≡ first n P =
-    elim c.loop-j-test.branch [
-      | else-loop-j-test w ↦ search-ended P n j (first n P) (c.loop-j.invariant.1 m) (omega arith)
-      | then-loop-j-test+then-another_keeps w ↦
-          search-found P n j (first n P) (c.loop-j.invariant.1 m) w.another_keeps.result (omega arith) (w.another_keeps.ensures m) w.if-another_keeps.true
-    ] in
-    ap (λ (z : ℕ). ltb z n) e ∙ shared-is a.setup r a.processor a.block
+    let e : c.loop-j.j ≡ first n P = search-ended P n c.loop-j.j (first n P) (c.loop-j.invariant.1 m) (omega arith) in
+    sym (le-ltb c.loop-j.j n (omega arith)) ∙ ap (λ (z : ℕ). ltb z n) e ∙ shared-is a.setup r a.processor a.block

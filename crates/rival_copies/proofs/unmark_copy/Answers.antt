@@ -2,10 +2,10 @@
 use Rattle.protocol.specs.Rival.{keeps}
 use Rattle.rival_copies.proofs.unmark_copy.Goals as goal
 
-pub returns-then-not-keeps_at : goal.returns-then-not-keeps_at
+pub returns-then-keeps_at : goal.returns-then-keeps_at
 unfolding keeps
-returns-then-not-keeps_at c m = rw (← c.slot-k.ensures.value, ← (c.keeps_at.ensures m), c.if-not-keeps_at.true)
+returns-then-keeps_at c m = rw (← c.slot-k.ensures.value, ← (c.keeps_at.ensures m), c.if-keeps_at.true)
 
-pub returns : goal.returns
+pub returns-else-keeps_at : goal.returns-else-keeps_at
 unfolding keeps
-returns c m = rw (← c.slot-k.ensures.value, ← (c.keeps_at.ensures m), c.if-not-keeps_at.false)
+returns-else-keeps_at c m = rw (← c.slot-k.ensures.value, ← (c.keeps_at.ensures m), c.if-keeps_at.false)
