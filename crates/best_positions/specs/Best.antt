@@ -14,8 +14,8 @@ use Rattle.protocol_types.specs.declared.Request.{Request}
 use Rattle.protocol_types.specs.declared.Entry.{Entry}
 use Rattle.protocol_types.specs.declared.Entry.TheVariants.{Fetch, WriteBack, Drop, Complete, CompleteByBroadcast}
 use Rattle.protocol_types.specs.declared.BestSchedule.{BestSchedule}
-use Rattle.protocol_types.specs.declared.BestAnswer.{BestAnswer}
-use Rattle.protocol_types.specs.declared.BestAnswer.TheVariants.{Found, Refused}
+use Rattle.protocol_types.specs.SearchAnswers.{BestAnswer}
+use Rattle.protocol_types.specs.SearchAnswers.{Found, Refused}
 use Rattle.best_search.specs.Search.{State, Tried, searched, route, trail, over, used}
 use Rattle.best_positions.specs.Position.{asked_all, entry_of, entry_number, next_at, board, served_of, rival_of}
 

@@ -13,7 +13,7 @@ use Rattle.protocol_types.specs.declared.Setup.{Setup}
 use Rattle.protocol_types.specs.declared.Request.{Request}
 use Rattle.protocol_types.specs.declared.Entry.TheVariants.{Complete}
 use Rattle.protocol_types.specs.declared.BestSchedule.{BestSchedule}
-use Rattle.protocol_types.specs.declared.BestAnswer.TheVariants.{Found, Refused}
+use Rattle.protocol_types.specs.SearchAnswers.{Found, Refused}
 use Rattle.best_steps.specs.declared.BestProgress.{BestProgress}
 
 -- 2, by the lengths of the four tables and of the list

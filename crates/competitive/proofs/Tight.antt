@@ -29,7 +29,7 @@ use Rattle.protocol_types.specs.declared.Block.{Block}
 use Rattle.protocol_types.specs.declared.Request.{Request}
 use Rattle.protocol_types.specs.declared.Operation.TheVariants.{Read, Write}
 use Rattle.protocol_types.specs.declared.Bill.{Bill}
-use Rattle.protocol_types.specs.declared.RunAnswer.{RunAnswer}
+use Rattle.protocol_types.specs.Answers.{RunAnswer}
 use Rattle.protocol_types.specs.declared.Entry.{Entry}
 use Rattle.protocol_types.specs.declared.Entry.TheVariants.{Fetch, Drop, Complete}
 use Rattle.protocol_types.proofs.Laws.{Same, same, apart, same?, Under, under, over, under?, choice, other-found, at_set_same, at_set_other, at-set-zero, at-zeros}

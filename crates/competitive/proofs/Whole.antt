@@ -19,7 +19,7 @@ use Rattle.protocol.specs.Runs.{run_refusal, engine, masked_engine}
 use Rattle.protocol_types.specs.declared.Setup.{Setup}
 use Rattle.protocol_types.specs.declared.Request.{Request}
 use Rattle.protocol_types.specs.declared.Account.{Account}
-use Rattle.protocol_types.specs.declared.RunAnswer.{RunAnswer}
+use Rattle.protocol_types.specs.Answers.{RunAnswer}
 use Rattle.protocol_types.proofs.Conditions.{named-passes}
 use Rattle.protocol.proofs.Engines.{Left, run-left}
 use Rattle.protocol.proofs.Masks.{fresh-run}

@@ -26,7 +26,7 @@ use Rattle.protocol_types.specs.declared.Bill.{Bill}
 use Rattle.protocol_types.specs.declared.Account.{Account}
 use Rattle.protocol_types.specs.declared.Entry.{Entry}
 use Rattle.protocol_types.specs.declared.Entry.TheVariants.{Fetch, WriteBack, Drop, Complete, CompleteByBroadcast}
-use Rattle.protocol_types.specs.declared.PriceAnswer.TheVariants.{Accepted, Refused}
+use Rattle.protocol_types.specs.Answers.{Accepted, Refused}
 
 -- ---- demand 3
 

@@ -2,8 +2,8 @@
 use Rattle.std.specs.Prelude.{ℕ, ◌*◌, Bool, cond, List, ◌++◌, length, drop, eqb}
 use Rattle.protocol_types.specs.Refusals.{no_refusal}
 use Rattle.protocol_types.specs.declared.Setup.{Setup}
-use Rattle.protocol_types.specs.declared.BestAnswer.{BestAnswer}
-use Rattle.protocol_types.specs.declared.BestAnswer.TheVariants.{Found, Refused}
+use Rattle.protocol_types.specs.SearchAnswers.{BestAnswer}
+use Rattle.protocol_types.specs.SearchAnswers.{Found, Refused}
 use Rattle.best_positions.specs.Best.{SearchTables, search_sized, best_refusal, schedule, best_answer}
 use Rattle.host_decoding.specs.Records.{entry_width, both_whole, requests_of, entries_of}
 use Rattle.host_encoding.specs.Numbers.{schedule_numbers}

@@ -12,7 +12,7 @@ use Rattle.protocol_types.specs.Board.{setup_refusal}
 use Rattle.protocol_types.specs.declared.Setup.{Setup}
 use Rattle.protocol_types.specs.declared.Request.{Request}
 use Rattle.protocol_types.specs.declared.Entry.{Entry}
-use Rattle.protocol_types.specs.declared.PriceAnswer.TheVariants.{Accepted}
+use Rattle.protocol_types.specs.Answers.{Accepted}
 use Rattle.protocol_types.proofs.Laws.{and-true}
 use Rattle.protocol_types.proofs.Refusals.{neither-refuses}
 use Rattle.protocol.specs.Rival.{Rival, rival_sized}

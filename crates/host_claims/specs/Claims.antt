@@ -8,8 +8,8 @@ use Rattle.protocol.specs.Engines.{answered}
 use Rattle.protocol.specs.Generator.{workload}
 use Rattle.protocol.specs.Rival.{Rival, rival_sized, no_copies, Legal, costs}
 use Rattle.protocol_types.specs.declared.Setup.{Setup}
-use Rattle.protocol_types.specs.declared.PriceAnswer.TheVariants.{Accepted}
-use Rattle.protocol_types.specs.declared.BestAnswer.TheVariants.{Found}
+use Rattle.protocol_types.specs.Answers.{Accepted}
+use Rattle.protocol_types.specs.SearchAnswers.{Found}
 use Rattle.best_positions.specs.Best.{SearchTables, best_schedule}
 use Rattle.host_decoding.specs.Records.{entry_width, requests_of, entries_of}
 use Rattle.host_numbers.specs.Numbers.{run_numbers, price_of_numbers}

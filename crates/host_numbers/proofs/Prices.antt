@@ -10,8 +10,8 @@ use Rattle.protocol.specs.Pricer.{price, price_tables, numbered, price_numbers, 
 use Rattle.protocol_types.specs.declared.Setup.{Setup}
 use Rattle.protocol_types.specs.declared.Request.{Request}
 use Rattle.protocol_types.specs.declared.Entry.{Entry}
-use Rattle.protocol_types.specs.declared.PriceAnswer.{PriceAnswer}
-use Rattle.protocol_types.specs.declared.PriceAnswer.TheVariants.{Refused}
+use Rattle.protocol_types.specs.Answers.{PriceAnswer}
+use Rattle.protocol_types.specs.Answers.{Refused}
 use Rattle.protocol_types.proofs.Conditions.{no-request}
 use Rattle.protocol.proofs.Pricer.{price-numbers}
 use Rattle.rival_pricing.specs.Stages.{PriceStage, price_begun, took, completed}

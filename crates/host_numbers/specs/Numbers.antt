@@ -7,8 +7,8 @@ use Rattle.protocol.specs.Rival.{Rival}
 use Rattle.protocol.specs.Pricer.{price, price_tables, PriceNumbers, numbered, price_numbers}
 use Rattle.protocol_types.specs.declared.Setup.{Setup}
 use Rattle.protocol_types.specs.declared.Account.{Account}
-use Rattle.protocol_types.specs.declared.PriceAnswer.{PriceAnswer}
-use Rattle.protocol_types.specs.declared.PriceAnswer.TheVariants.{Refused}
+use Rattle.protocol_types.specs.Answers.{PriceAnswer}
+use Rattle.protocol_types.specs.Answers.{Refused}
 use Rattle.host_decoding.specs.Records.{request_width, whole, both_whole, partial_refusal, requests_of, entries_of}
 
 -- requests taken, then fetch, write-back and update cycles

@@ -14,8 +14,8 @@ use Rattle.protocol.specs.Pricer.{Verdict, accepted, refused, verdict, price_req
 use Rattle.protocol_types.specs.declared.Setup.{Setup}
 use Rattle.protocol_types.specs.declared.Request.{Request}
 use Rattle.protocol_types.specs.declared.Entry.{Entry}
-use Rattle.protocol_types.specs.declared.PriceAnswer.{PriceAnswer}
-use Rattle.protocol_types.specs.declared.PriceAnswer.TheVariants.{Refused}
+use Rattle.protocol_types.specs.Answers.{PriceAnswer}
+use Rattle.protocol_types.specs.Answers.{Refused}
 use Rattle.protocol_types.proofs.Laws.{both_true, three-true, chosen-zero}
 use Rattle.protocol_types.proofs.Board.{setup-fits}
 use Rattle.protocol_types.proofs.Refusals.{neither-refuses}

@@ -5,7 +5,7 @@ use Rattle.protocol_types.specs.Refusals.{no_refusal, unsound_tables, impossible
 use Rattle.protocol.specs.Accounts.{nothing, plus, entered}
 use Rattle.protocol_types.specs.declared.Bill.{Bill}
 use Rattle.protocol_types.specs.declared.Account.{Account}
-use Rattle.protocol_types.specs.declared.RunAnswer.{RunAnswer}
+use Rattle.protocol_types.specs.Answers.{RunAnswer}
 
 -- what the rules of an engine say
 pub record Engine (T Q : Type 0) : Type 0 where

@@ -8,8 +8,8 @@ use Rattle.protocol_types.specs.declared.Setup.{Setup}
 use Rattle.protocol_types.specs.declared.Request.{Request}
 use Rattle.protocol_types.specs.declared.Bill.{Bill}
 use Rattle.protocol_types.specs.declared.Entry.{Entry}
-use Rattle.protocol_types.specs.declared.PriceAnswer.{PriceAnswer}
-use Rattle.protocol_types.specs.declared.PriceAnswer.TheVariants.{Accepted, Refused}
+use Rattle.protocol_types.specs.Answers.{PriceAnswer}
+use Rattle.protocol_types.specs.Answers.{Accepted, Refused}
 
 -- ---- a schedule's verdict
 

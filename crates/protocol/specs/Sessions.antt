@@ -18,7 +18,7 @@ use Rattle.protocol_types.specs.declared.Operation.{Operation}
 use Rattle.protocol_types.specs.declared.Operation.TheVariants.{Read, Write, Clear}
 use Rattle.protocol_types.specs.declared.Bill.{Bill}
 use Rattle.protocol_types.specs.declared.Account.{Account}
-use Rattle.protocol_types.specs.declared.RunAnswer.{RunAnswer}
+use Rattle.protocol_types.specs.Answers.{RunAnswer}
 use Rattle.protocol_types.specs.declared.Entry.{Entry}
 use Rattle.protocol_types.specs.declared.Entry.TheVariants.{Fetch, WriteBack, Drop, Complete, CompleteByBroadcast}
 

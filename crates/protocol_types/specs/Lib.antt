@@ -4,3 +4,4 @@ pub mod Refusals
 pub mod Board
 pub mod Conditions
 pub mod Answers
+pub mod SearchAnswers

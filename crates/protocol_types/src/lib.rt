@@ -383,12 +383,11 @@ pub struct Account {
     pub update: u32,
 }
 
-// What a run answers: the requests taken, the refusal number or 0, and the refused place.
+// What a run answers: the requests taken, and what refused it, if anything did.
 #[derive(Clone, Copy)]
 pub struct RunAnswer {
     pub taken: usize,
-    pub refusal: u32,
-    pub place: usize,
+    pub refused: Option<PlacedRefusal>,
 }
 
 // One entry of a rival's schedule: a processor and a block, or the completion of the next request.
@@ -401,13 +400,6 @@ pub enum Entry {
     CompleteByBroadcast,
 }
 
-// What the pricer answers: the schedule's cost, or a refusal number and its place.
-#[derive(Clone, Copy)]
-pub enum PriceAnswer {
-    Accepted(u32),
-    Refused(u32, usize),
-}
-
 // The best schedule found so far: how many entries it has, its cost, the steps used, whether it is called least, and its cost less half the engine's cycles, that half rounded up.
 #[derive(Clone, Copy)]
 pub struct BestSchedule {
@@ -416,11 +408,4 @@ pub struct BestSchedule {
     pub steps: u32,
     pub least: bool,
     pub excess: u32,
-}
-
-// What the search for the best schedule answers: the schedule, or a refusal number and its place.
-#[derive(Clone, Copy)]
-pub enum BestAnswer {
-    Found(BestSchedule),
-    Refused(u32, usize),
 }

@@ -22,7 +22,7 @@ use Rattle.protocol_types.specs.declared.Request.{Request}
 use Rattle.protocol_types.specs.declared.Bill.{Bill}
 use Rattle.protocol_types.specs.declared.Entry.{Entry}
 use Rattle.protocol_types.specs.declared.Entry.TheVariants.{Fetch, WriteBack, Drop, Complete, CompleteByBroadcast}
-use Rattle.protocol_types.specs.declared.PriceAnswer.TheVariants.{Accepted, Refused}
+use Rattle.protocol_types.specs.Answers.{Accepted, Refused}
 use Rattle.protocol_types.proofs.Laws.{choice, both_true}
 use Rattle.protocol_types.proofs.Conditions.{no-request}
 use Rattle.protocol.proofs.Rival.{sized-no_copies, sized-played}

@@ -9,7 +9,7 @@ use Rattle.protocol_types.specs.declared.Setup.{Setup}
 use Rattle.protocol_types.specs.declared.Request.{Request}
 use Rattle.protocol_types.specs.declared.Entry.{Entry}
 use Rattle.protocol_types.specs.declared.Entry.TheVariants.{Fetch, WriteBack, Drop, Complete, CompleteByBroadcast}
-use Rattle.protocol_types.specs.declared.PriceAnswer.TheVariants.{Accepted, Refused}
+use Rattle.protocol_types.specs.Answers.{Accepted, Refused}
 use Rattle.rival_copies.specs.Copies.{completion}
 use Rattle.rival_pricing.specs.declared.Pricing.{Pricing}
 

@@ -7,7 +7,7 @@ use Rattle.protocol.specs.Engines.{Engine, Outcome, answered}
 use Rattle.protocol_types.specs.declared.Setup.{Setup}
 use Rattle.protocol_types.specs.declared.Bill.{Bill}
 use Rattle.protocol_types.specs.declared.Account.{Account}
-use Rattle.protocol_types.specs.declared.RunAnswer.{RunAnswer}
+use Rattle.protocol_types.specs.Answers.{RunAnswer}
 use Rattle.run_progress.specs.declared.Progress.{Progress}
 
 -- ---- sums that fit

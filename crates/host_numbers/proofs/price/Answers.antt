@@ -2,7 +2,7 @@
 use Prim.Native.Nat.{ℕ}
 use mathlib.Core.Path.{ap, sym, ◌∙◌}
 use Rattle.protocol.specs.Rival.{rival}
-use Rattle.protocol_types.specs.declared.PriceAnswer.TheVariants.{Refused}
+use Rattle.protocol_types.specs.Answers.{Refused}
 use Rattle.host_numbers.proofs.Prices.{price-whole, price-partial}
 use Rattle.host_numbers.proofs.price.Goals as goal
 
