@@ -2,13 +2,13 @@
 #![tactic(auto)]
 
 ghost use Rattle.std.specs.Prelude.{◌≡◌, cond, List, [], ℕ, ◌<◌, length};
-ghost use Rattle.protocol_types.specs.Refusals.{no_refusal, unless, completion_not_held};
+ghost use Rattle.protocol_types.specs.Refusals.{no_refusal, unless, completion_not_held, refusal_number, refusal_before};
 ghost use Rattle.protocol_types.specs.Board.{Fits, slots};
 ghost use Rattle.protocol.specs.Accounts.{cycles};
 ghost use Rattle.protocol.specs.Rival.{Rival, rival, RivalSized, keeps, shared, empty_cache, completion_cycles, cost, move_refusal, ready_refusal, completion_refusal, refusal};
 ghost use Rattle.rival_copies.specs.Copies.{rival_lent, rival_marked};
 
-use protocol_types::{Block, Entry, Operation, Request, Setup};
+use protocol_types::{Block, Entry, Operation, Refusal, Request, Setup};
 use rival_copies::{keeps, keeps_at, shared};
 
 // ---- what an entry costs
@@ -20,9 +20,7 @@ pub fn cost(setup: Setup, entry: Entry) -> u32
     match entry {
         Entry::Fetch(_, _) => setup.fetch_price(),
         Entry::WriteBack(_, _) => setup.write_back_price(),
-        Entry::Drop(_, _) => 0,
-        Entry::Complete => 0,
-        Entry::CompleteByBroadcast => 0,
+        Entry::Drop(_, _) | Entry::Complete | Entry::CompleteByBroadcast => 0,
     }
 }
 
@@ -60,124 +58,124 @@ pub fn completion_cycles(
     requires blocks_len { (length blocks.now ≡ slots setup) × (length held.now ≡ slots setup) }
     ensures { (m : List ℕ) → result ≡ completion_cycles setup (rival_marked blocks.now held.now m) request broadcast }
 {
-    let operation = request.operation;
-    match operation {
-        Operation::Read(_) => 0,
+    match request.operation {
+        Operation::Read(_) | Operation::Clear => 0,
         Operation::Write(v, _) => {
             let block = setup.block_of(v);
             write_cycles(setup, request.processor, block, broadcast, blocks, held)
         }
-        Operation::Clear => 0,
     }
 }
 
 // ---- the conditions, in the order of checks
 
 // At a fetch, a write-back or a drop 3, then 8.
-fn move_refusal(setup: Setup, processor: u32, block: Block) -> u32
-    ensures { result ≡ move_refusal setup processor block no_refusal }
+fn check_move(setup: Setup, processor: u32, block: Block) -> Result<(), Refusal>
+    ensures { (after : ℕ) → refusal_before result after ≡ move_refusal setup processor block after }
 {
     if processor >= setup.processors {
-        return protocol_types::NO_SUCH_PROCESSOR;
+        return Err(Refusal::NoSuchProcessor);
     }
     if block.0 >= setup.blocks {
-        return protocol_types::NO_SUCH_BLOCK;
+        return Err(Refusal::NoSuchBlock);
     }
-    protocol_types::NO_REFUSAL
+    Ok(())
 }
 
 // Then 23 at a fetch.
-fn fetch_refusal(setup: Setup, processor: u32, block: Block, held: &[u32]) -> u32
+fn check_fetch(setup: Setup, processor: u32, block: Block, held: &[u32]) -> Result<(), Refusal>
     requires fits { Fits setup }
     requires held_len { length held.now ≡ slots setup }
-    ensures { (b m : List ℕ) → result ≡ refusal setup (rival b held.now m) [] (Entry.Fetch processor block) }
+    ensures { (b m : List ℕ) → refusal_number result ≡ refusal setup (rival b held.now m) [] (Entry.Fetch processor block) }
 {
-    let n = move_refusal(setup, processor, block);
-    if n != protocol_types::NO_REFUSAL {
-        return n;
-    }
+    check_move(setup, processor, block)?;
     let k = setup.slot(processor, block);
     if held[k] != 0 {
-        return protocol_types::LINE_IN_USE;
+        return Err(Refusal::LineInUse);
     }
-    protocol_types::NO_REFUSAL
+    Ok(())
 }
 
 // 24 at a write-back.
-fn write_back_refusal(
+fn check_write_back(
     setup: Setup,
     processor: u32,
     block: Block,
     blocks: &[u32],
     held: &[u32],
-) -> u32
+) -> Result<(), Refusal>
     requires fits { Fits setup }
     requires blocks_len { (length blocks.now ≡ slots setup) × (length held.now ≡ slots setup) }
-    ensures { (m : List ℕ) → result ≡ refusal setup (rival_marked blocks.now held.now m) [] (Entry.WriteBack processor block) }
+    ensures { (m : List ℕ) → refusal_number result ≡ refusal setup (rival_marked blocks.now held.now m) [] (Entry.WriteBack processor block) }
 {
-    let n = move_refusal(setup, processor, block);
-    if n != protocol_types::NO_REFUSAL {
-        return n;
-    }
+    check_move(setup, processor, block)?;
     if !keeps(setup, processor, block, blocks, held) {
-        return protocol_types::BLOCK_NOT_HELD;
+        return Err(Refusal::BlockNotHeld);
     }
-    protocol_types::NO_REFUSAL
+    Ok(())
 }
 
 // 24, then 25 at a drop.
-fn drop_refusal(
+fn check_drop(
     setup: Setup,
     processor: u32,
     block: Block,
     blocks: &[u32],
     held: &[u32],
     marks: &[u32],
-) -> u32
+) -> Result<(), Refusal>
     requires fits { Fits setup }
     requires rival_sized { RivalSized setup (rival_lent blocks.now held.now marks.now) }
-    ensures { result ≡ refusal setup (rival_lent blocks.now held.now marks.now) [] (Entry.Drop processor block) }
+    ensures { refusal_number result ≡ refusal setup (rival_lent blocks.now held.now marks.now) [] (Entry.Drop processor block) }
 {
-    let n = move_refusal(setup, processor, block);
-    if n != protocol_types::NO_REFUSAL {
-        return n;
-    }
+    check_move(setup, processor, block)?;
     let k = setup.slot(processor, block);
     if !keeps_at(k, block, blocks, held) {
-        return protocol_types::BLOCK_NOT_HELD;
+        return Err(Refusal::BlockNotHeld);
     }
     if marks[k] != 0 {
-        return protocol_types::DROP_OF_MARKED;
+        return Err(Refusal::DropOfMarked);
     }
-    protocol_types::NO_REFUSAL
+    Ok(())
 }
 
-// The refusal of an entry where no request is left: 26 at a completion.
-pub fn refusal(setup: Setup, entry: Entry, blocks: &[u32], held: &[u32], marks: &[u32]) -> u32
+// Whether an entry is refused where no request is left: 26 at a completion.
+pub fn check(
+    setup: Setup,
+    entry: Entry,
+    blocks: &[u32],
+    held: &[u32],
+    marks: &[u32],
+) -> Result<(), Refusal>
     requires fits { Fits setup }
     requires rival_sized { RivalSized setup (rival_lent blocks.now held.now marks.now) }
-    ensures { result ≡ refusal setup (rival_lent blocks.now held.now marks.now) [] entry }
+    ensures { refusal_number result ≡ refusal setup (rival_lent blocks.now held.now marks.now) [] entry }
 {
     match entry {
-        Entry::Fetch(i, b) => fetch_refusal(setup, i, b, held),
-        Entry::WriteBack(i, b) => write_back_refusal(setup, i, b, blocks, held),
-        Entry::Drop(i, b) => drop_refusal(setup, i, b, blocks, held, marks),
-        Entry::Complete => protocol_types::NO_REQUEST_LEFT,
-        Entry::CompleteByBroadcast => protocol_types::NO_REQUEST_LEFT,
+        Entry::Fetch(i, b) => check_fetch(setup, i, b, held),
+        Entry::WriteBack(i, b) => check_write_back(setup, i, b, blocks, held),
+        Entry::Drop(i, b) => check_drop(setup, i, b, blocks, held, marks),
+        Entry::Complete | Entry::CompleteByBroadcast => Err(Refusal::NoRequestLeft),
     }
 }
 
 // 27 at the completion of an operation on a block.
-fn held_refusal(setup: Setup, processor: u32, block: Block, blocks: &[u32], held: &[u32]) -> u32
+fn check_held(
+    setup: Setup,
+    processor: u32,
+    block: Block,
+    blocks: &[u32],
+    held: &[u32],
+) -> Result<(), Refusal>
     requires fits { Fits setup }
     requires processor_lt_processors { processor < setup.processors }
     requires blocks_len { (length blocks.now ≡ slots setup) × (length held.now ≡ slots setup) }
-    ensures { (m : List ℕ) → result ≡ unless (keeps setup (rival_marked blocks.now held.now m) processor block) completion_not_held no_refusal }
+    ensures { (m : List ℕ) → refusal_number result ≡ unless (keeps setup (rival_marked blocks.now held.now m) processor block) completion_not_held no_refusal }
 {
     if !keeps(setup, processor, block, blocks, held) {
-        return protocol_types::COMPLETION_NOT_HELD;
+        return Err(Refusal::CompletionNotHeld);
     }
-    protocol_types::NO_REFUSAL
+    Ok(())
 }
 
 // Whether no line of a processor's cache holds a block.
@@ -187,8 +185,7 @@ fn cache_empty(setup: Setup, processor: u32, held: &[u32]) -> bool
     requires held_len { length held.now ≡ slots setup }
     ensures { (b m : List ℕ) → result ≡ empty_cache setup (rival b held.now m) processor }
 {
-    let n = setup.lines;
-    for line in 0..n {
+    for line in 0..setup.lines {
         let k = setup.line_slot(processor, line);
         if held[k] != 0 {
             return false;
@@ -198,67 +195,73 @@ fn cache_empty(setup: Setup, processor: u32, held: &[u32]) -> bool
 }
 
 // At the completion of a clear 9, then 29.
-fn clear_refusal(setup: Setup, processor: u32, broadcast: bool, held: &[u32]) -> u32
+fn check_clear(setup: Setup, processor: u32, broadcast: bool, held: &[u32]) -> Result<(), Refusal>
     requires fits { Fits setup }
     requires processor_lt_processors { processor < setup.processors }
     requires held_len { length held.now ≡ slots setup }
-    ensures { (b m : List ℕ) → result ≡ ready_refusal setup (rival b held.now m) processor Operation.Clear broadcast }
+    ensures { (b m : List ℕ) → refusal_number result ≡ ready_refusal setup (rival b held.now m) processor Operation.Clear broadcast }
 {
     if broadcast {
-        return protocol_types::BROADCAST_WITHOUT_WRITE;
+        return Err(Refusal::BroadcastWithoutWrite);
     }
     if !cache_empty(setup, processor, held) {
-        return protocol_types::CACHE_NOT_EMPTY;
+        return Err(Refusal::CacheNotEmpty);
     }
-    protocol_types::NO_REFUSAL
+    Ok(())
 }
 
 // At a completion 9, then 27, or 29 at a clear.
-fn ready_refusal(
+fn check_ready(
     setup: Setup,
     processor: u32,
     operation: Operation,
     broadcast: bool,
     blocks: &[u32],
     held: &[u32],
-) -> u32
+) -> Result<(), Refusal>
     requires fits { Fits setup }
     requires processor_lt_processors { processor < setup.processors }
     requires blocks_len { (length blocks.now ≡ slots setup) × (length held.now ≡ slots setup) }
-    ensures { (m : List ℕ) → result ≡ ready_refusal setup (rival_marked blocks.now held.now m) processor operation broadcast }
+    ensures { (m : List ℕ) → refusal_number result ≡ ready_refusal setup (rival_marked blocks.now held.now m) processor operation broadcast }
 {
     match operation {
         Operation::Read(v) => {
             if broadcast {
-                return protocol_types::BROADCAST_WITHOUT_WRITE;
+                return Err(Refusal::BroadcastWithoutWrite);
             }
             let block = setup.block_of(v);
-            held_refusal(setup, processor, block, blocks, held)
+            check_held(setup, processor, block, blocks, held)
         }
         Operation::Write(v, _) => {
             let block = setup.block_of(v);
-            held_refusal(setup, processor, block, blocks, held)
+            check_held(setup, processor, block, blocks, held)
         }
-        Operation::Clear => clear_refusal(setup, processor, broadcast, held),
+        Operation::Clear => check_clear(setup, processor, broadcast, held),
     }
 }
 
 // At a completion 3, 4, then these.
-pub fn completion_refusal(
+pub fn check_completion(
     setup: Setup,
     request: Request,
     broadcast: bool,
     blocks: &[u32],
     held: &[u32],
-) -> u32
+) -> Result<(), Refusal>
     requires fits { Fits setup }
     requires blocks_len { (length blocks.now ≡ slots setup) × (length held.now ≡ slots setup) }
-    ensures { (m : List ℕ) → result ≡ completion_refusal setup (rival_marked blocks.now held.now m) request broadcast }
+    ensures { (m : List ℕ) → refusal_number result ≡ completion_refusal setup (rival_marked blocks.now held.now m) request broadcast }
 {
     if request.processor >= setup.processors {
-        return protocol_types::NO_SUCH_PROCESSOR;
+        return Err(Refusal::NoSuchProcessor);
     }
-    let operation = request.operation;
-    let next = ready_refusal(setup, request.processor, operation, broadcast, blocks, held);
-    setup.named_refusal(operation, next)
+    setup.check_named(request.operation)?;
+    check_ready(
+        setup,
+        request.processor,
+        request.operation,
+        broadcast,
+        blocks,
+        held,
+    )
 }

@@ -7,6 +7,9 @@ use mathlib.Core.Bool.{Bool, true, false}
 use mathlib.Core.List.{List, [], ◌∷◌}
 use native.Mathlib.Omega.{arith}
 use borrow.Author.Tests.{eq-eqb, ne_eqb}
+use Rattle.protocol_types.specs.Refusals.{number}
+use Rattle.protocol_types.specs.declared.Refusal.{Refusal}
+use Rattle.protocol_types.specs.declared.Refusal.TheVariants.{SetupOutOfRange, WrongLength, NoSuchProcessor, NoSuchVariable, TooMany, MalformedLine, UnknownLabel, NoSuchBlock, BroadcastWithoutWrite, PriceOutOfRange, SeedZero, NotSearchable, UnsoundTables, ImpossibleAccount, AccountFull, LineInUse, BlockNotHeld, DropOfMarked, NoRequestLeft, CompletionNotHeld, RequestsLeft, CacheNotEmpty}
 use Rattle.protocol_types.specs.Board.{price_limit, Fits, block_of}
 use Rattle.protocol.specs.Accounts.{cycles}
 use Rattle.protocol.specs.Rival.{Rival, no_copies, shared, played, completion_by, completion_cycles, cost, completion_refusal, refusal}
@@ -33,6 +36,31 @@ module _ (s : Setup) (r : Rival) (n m x : ℕ) (is : x ≡ price_refusal s r n m
   start-passed z = rw (← is, eq-eqb x 0 z)
 
 -- ---- an entry
+
+-- no refusal has the number 0
+pub number-refuses : (r : Refusal) {n : ℕ} → n ≡ number r → n ≢ 0
+number-refuses SetupOutOfRange e z = absurd (omega arith)
+number-refuses WrongLength e z = absurd (omega arith)
+number-refuses NoSuchProcessor e z = absurd (omega arith)
+number-refuses NoSuchVariable e z = absurd (omega arith)
+number-refuses TooMany e z = absurd (omega arith)
+number-refuses MalformedLine e z = absurd (omega arith)
+number-refuses UnknownLabel e z = absurd (omega arith)
+number-refuses NoSuchBlock e z = absurd (omega arith)
+number-refuses BroadcastWithoutWrite e z = absurd (omega arith)
+number-refuses PriceOutOfRange e z = absurd (omega arith)
+number-refuses SeedZero e z = absurd (omega arith)
+number-refuses NotSearchable e z = absurd (omega arith)
+number-refuses UnsoundTables e z = absurd (omega arith)
+number-refuses ImpossibleAccount e z = absurd (omega arith)
+number-refuses AccountFull e z = absurd (omega arith)
+number-refuses LineInUse e z = absurd (omega arith)
+number-refuses BlockNotHeld e z = absurd (omega arith)
+number-refuses DropOfMarked e z = absurd (omega arith)
+number-refuses NoRequestLeft e z = absurd (omega arith)
+number-refuses CompletionNotHeld e z = absurd (omega arith)
+number-refuses RequestsLeft e z = absurd (omega arith)
+number-refuses CacheNotEmpty e z = absurd (omega arith)
 
 module _ (s : Setup) (x : PriceStage) (qs : List Request) (e : Entry) (k n : ℕ) (is : n ≡ refusal s x.copies qs e) where
   pub entry-refused : n ≢ 0 → rejected s x.progress n x.progress.at ≡ price_turned s x qs e k

@@ -6,7 +6,7 @@ ghost use Rattle.rival_copies.specs.Copies.{rival_lent};
 ghost use Rattle.rival_pricing.specs.Stages.{price_stage, price_begun, took, completed, PriceReady, Due};
 
 use protocol_types::{Entry, Request, Setup};
-use rival_conditions::{completion_cycles, completion_refusal, cost, refusal};
+use rival_conditions::{check, check_completion, completion_cycles, cost};
 use rival_copies::{play, play_completion};
 use rival_pricing::{
     Pricing, advance, awaits, broadcasts, clear_all, price_refusal, pricing_at, reach, reject,
@@ -48,9 +48,8 @@ pub fn take<'a>(
     if awaits(p, entry) {
         return waiting(p, broadcasts(entry));
     }
-    let n = refusal(setup, entry, &*blocks, &*held, &*marks);
-    if n != protocol_types::NO_REFUSAL {
-        return reject(setup, blocks, held, marks, p, n, p.at);
+    if let Err(refusal) = check(setup, entry, &*blocks, &*held, &*marks) {
+        return reject(setup, blocks, held, marks, p, refusal.number(), p.at);
     }
     play(setup, entry, blocks, held, marks);
     advance(setup, blocks, held, marks, p, p.next, cost(setup, entry))
@@ -68,9 +67,8 @@ pub fn complete<'a>(
     requires { Due setup (price_stage p (rival_lent blocks.old held.old marks.old)) }
     ensures { price_stage result (rival_lent blocks.new held.new marks.new) ≡ completed setup (price_stage p (rival_lent blocks.old held.old marks.old)) request }
 {
-    let n = completion_refusal(setup, request, p.by_broadcast, &*blocks, &*held);
-    if n != protocol_types::NO_REFUSAL {
-        return reject(setup, blocks, held, marks, p, n, p.at);
+    if let Err(refusal) = check_completion(setup, request, p.by_broadcast, &*blocks, &*held) {
+        return reject(setup, blocks, held, marks, p, refusal.number(), p.at);
     }
     let cycles = completion_cycles(setup, request, p.by_broadcast, &*blocks, &*held);
     play_completion(setup, request, p.by_broadcast, &*blocks, &*held, marks);

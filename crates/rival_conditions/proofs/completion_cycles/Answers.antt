@@ -10,7 +10,3 @@ returns-in-Read c = search rules
 pub returns-in-Write : goal.returns-in-Write
 unfolding completion_cycles
 returns-in-Write c = search rules
-
-pub returns-in-Clear : goal.returns-in-Clear
-unfolding completion_cycles
-returns-in-Clear c = search rules

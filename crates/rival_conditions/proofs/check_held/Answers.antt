@@ -1,5 +1,5 @@
 -- Whether the block is held decides.
-use Rattle.rival_conditions.proofs.held_refusal.Goals as goal
+use Rattle.rival_conditions.proofs.check_held.Goals as goal
 
 pub returns-then-not-keeps : goal.returns-then-not-keeps
 returns-then-not-keeps c m = rw (← (c.keeps.ensures m), c.if-not-keeps.true)

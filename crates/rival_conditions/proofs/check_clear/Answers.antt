@@ -1,5 +1,5 @@
 -- By broadcast 9; else whether the cache is empty decides.
-use Rattle.rival_conditions.proofs.clear_refusal.Goals as goal
+use Rattle.rival_conditions.proofs.check_clear.Goals as goal
 
 pub returns-then-broadcast : goal.returns-then-broadcast
 returns-then-broadcast c b m = rw c.if-broadcast.true

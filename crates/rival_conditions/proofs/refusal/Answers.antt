@@ -1,5 +1,0 @@
--- Each kind of entry has its own conditions.
-use Rattle.rival_conditions.proofs.refusal.Goals as goal
-
-pub returns-in-Fetch : goal.returns-in-Fetch
-returns-in-Fetch c = rw c.in-Fetch.is (c.fetch_refusal.ensures c.args.blocks.now c.args.marks.now)
