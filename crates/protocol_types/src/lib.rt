@@ -89,7 +89,7 @@ impl Refusal {
 }
 
 // A refusal, and the place that it names.
-#[derive(Clone, Copy)]
+#[derive(Clone, Copy, PartialEq, Eq)]
 pub struct PlacedRefusal {
     pub refusal: Refusal,
     pub place: usize,
@@ -102,7 +102,7 @@ pub const REQUEST_LIMIT: u32 = 1000000;
 const PRICE_LIMIT: u32 = 32;
 
 // The board: N processors, L lines in each cache, p words in a block, M blocks, and the cycles of a fetch (f) and of a write-back (g).
-#[derive(Clone, Copy)]
+#[derive(Clone, Copy, PartialEq, Eq)]
 pub struct Setup {
     pub processors: u32,
     pub lines: u32,
@@ -113,51 +113,43 @@ pub struct Setup {
 }
 
 // A variable's number. No block number can stand for it.
-#[derive(Clone, Copy)]
+#[derive(Clone, Copy, PartialEq, Eq)]
 pub struct Variable(pub u32);
 
 // A block's number.
-#[derive(Clone, Copy)]
+#[derive(Clone, Copy, PartialEq, Eq)]
 pub struct Block(pub u32);
 
 // Whether x is a number from 1 to most.
 fn is_within(most: u32, x: u32) -> bool
     ensures { result ≡ within most x }
 {
-    if x < 1 {
-        return false;
-    }
-    x <= most
+    1 <= x && x <= most
 }
 
 impl Setup {
     // Whether condition 1 lets the setup through.
+    #[tactic(auto, unfolding(crate::specs::Board::sizes_in_range))]
     fn sizes_in_range(self) -> bool
         ensures { result ≡ sizes_in_range self }
     {
-        if !is_within(8, self.processors) {
-            return false;
-        }
-        if !is_within(64, self.lines) {
-            return false;
-        }
-        if !is_within(16, self.words) {
-            return false;
-        }
-        is_within(256, self.blocks)
+        is_within(8, self.processors)
+            && is_within(64, self.lines)
+            && is_within(16, self.words)
+            && is_within(256, self.blocks)
     }
 
     // Whether condition 10 lets the setup through.
+    #[tactic(auto, unfolding(crate::specs::Board::prices_in_range))]
     fn prices_in_range(self) -> bool
         ensures { result ≡ prices_in_range self }
     {
-        if !is_within(PRICE_LIMIT, self.fetch_price) {
-            return false;
-        }
-        is_within(self.fetch_price, self.write_back_price)
+        is_within(PRICE_LIMIT, self.fetch_price)
+            && is_within(self.fetch_price, self.write_back_price)
     }
 
     // The refusal number of the setup, or 0: 1, 10 in this order.
+    #[tactic(auto, unfolding(crate::specs::Board::setup_refusal))]
     pub fn refusal(self) -> u32
         ensures { result ≡ setup_refusal self }
     {
@@ -171,6 +163,7 @@ impl Setup {
     }
 
     // Whether the setup is refused: 1, 10 in this order.
+    #[tactic(auto, unfolding(crate::specs::Board::setup_refusal))]
     pub fn check(self) -> Result<(), Refusal>
         ensures { refusal_number result ≡ setup_refusal self }
     {
@@ -184,6 +177,7 @@ impl Setup {
     }
 
     // The cycles of a fetch, which is also a full counter.
+    #[tactic(auto, unfolding(crate::specs::Board::fetch_price))]
     pub fn fetch_price(self) -> u32
         ensures { result ≡ fetch_price self }
     {
@@ -191,6 +185,7 @@ impl Setup {
     }
 
     // The cycles of a write-back.
+    #[tactic(auto, unfolding(crate::specs::Board::write_back_price))]
     pub fn write_back_price(self) -> u32
         ensures { result ≡ write_back_price self }
     {
@@ -198,6 +193,7 @@ impl Setup {
     }
 
     // The most write-back cycles of one request: every line of a cache is written back.
+    #[tactic(auto, unfolding(crate::specs::Board::most_write_back))]
     pub fn most_write_back(self) -> u32
         requires { Fits self }
         ensures { result ≡ most_write_back self }
@@ -206,6 +202,7 @@ impl Setup {
     }
 
     // The block in which a variable lies.
+    #[tactic(auto, unfolding(crate::specs::Board::block_of))]
     pub fn block_of(self, variable: Variable) -> Block
         requires { Fits self }
         ensures { result ≡ block_of self variable }
@@ -214,6 +211,7 @@ impl Setup {
     }
 
     // A variable's offset in its block.
+    #[tactic(auto, unfolding(crate::specs::Board::offset_of))]
     pub fn offset_of(self, variable: Variable) -> u32
         requires { Fits self }
         ensures { result ≡ offset_of self variable }
@@ -222,6 +220,7 @@ impl Setup {
     }
 
     // The only line of a cache in which a block may stand.
+    #[tactic(auto, unfolding(crate::specs::Board::line_of))]
     pub fn line_of(self, block: Block) -> u32
         requires { Fits self }
         ensures { result ≡ line_of self block }
@@ -250,6 +249,7 @@ impl Setup {
     }
 
     // The slots: one for each line of each cache.
+    #[tactic(auto, unfolding(crate::specs::Board::slots))]
     pub fn slot_count(self) -> usize
         requires { Fits self }
         ensures { result ≡ slots self }
@@ -274,6 +274,7 @@ impl Setup {
     }
 
     // 4 if the variable is not below M × p, else `next`.
+    #[tactic(auto, unfolding(crate::specs::Conditions::variable_refusal))]
     fn variable_refusal(self, variable: Variable, next: u32) -> u32
         requires { Fits self }
         ensures { result ≡ variable_refusal self variable next }
@@ -298,6 +299,7 @@ impl Setup {
     }
 
     // Whether a variable is refused: 4 if it is not below M × p.
+    #[tactic(auto, unfolding(crate::specs::Conditions::variable_refusal))]
     fn check_variable(self, variable: Variable) -> Result<(), Refusal>
         requires { Fits self }
         ensures { (after : ℕ) → refusal_before result after ≡ variable_refusal self variable after }
@@ -321,6 +323,8 @@ impl Setup {
     }
 
     // Whether a request is refused where `taken` were taken before: 3, 4, 22 in this order.
+
+    #[tactic(auto, unfolding(crate::specs::Conditions::request_refusal))]
     pub fn check_request(self, taken: u32, request: Request) -> Result<(), Refusal>
         requires { Fits self }
         ensures { refusal_number result ≡ request_refusal self taken request }
@@ -336,6 +340,7 @@ impl Setup {
     }
 
     // The refusal number of a request where `taken` were taken before, or 0: 3, 4, 22 in this order.
+    #[tactic(auto, unfolding(crate::specs::Conditions::request_refusal))]
     pub fn request_refusal(self, taken: u32, request: Request) -> u32
         requires { Fits self }
         ensures { result ≡ request_refusal self taken request }
@@ -352,7 +357,7 @@ impl Setup {
 }
 
 // A clear empties the processor's cache; it names no variable.
-#[derive(Clone, Copy)]
+#[derive(Clone, Copy, PartialEq, Eq)]
 pub enum Operation {
     Read(Variable),
     Write(Variable, u32),
@@ -360,14 +365,14 @@ pub enum Operation {
 }
 
 // What one processor asks for.
-#[derive(Clone, Copy)]
+#[derive(Clone, Copy, PartialEq, Eq)]
 pub struct Request {
     pub processor: u32,
     pub operation: Operation,
 }
 
 // The cycles that an action is charged, by kind.
-#[derive(Clone, Copy)]
+#[derive(Clone, Copy, PartialEq, Eq)]
 pub struct Bill {
     pub fetch: u32,
     pub write_back: u32,
@@ -375,7 +380,7 @@ pub struct Bill {
 }
 
 // The host's account: requests taken, and the cycles of each kind.
-#[derive(Clone, Copy)]
+#[derive(Clone, Copy, PartialEq, Eq)]
 pub struct Account {
     pub requests: u32,
     pub fetch: u32,
@@ -384,14 +389,14 @@ pub struct Account {
 }
 
 // What a run answers: the requests taken, and what refused it, if anything did.
-#[derive(Clone, Copy)]
+#[derive(Clone, Copy, PartialEq, Eq)]
 pub struct RunAnswer {
     pub taken: usize,
     pub refused: Option<PlacedRefusal>,
 }
 
 // One entry of a rival's schedule: a processor and a block, or the completion of the next request.
-#[derive(Clone, Copy)]
+#[derive(Clone, Copy, PartialEq, Eq)]
 pub enum Entry {
     Fetch(u32, Block),
     WriteBack(u32, Block),
@@ -401,7 +406,7 @@ pub enum Entry {
 }
 
 // The best schedule found so far: how many entries it has, its cost, the steps used, whether it is called least, and its cost less half the engine's cycles, that half rounded up.
-#[derive(Clone, Copy)]
+#[derive(Clone, Copy, PartialEq, Eq)]
 pub struct BestSchedule {
     pub length: usize,
     pub cost: u32,

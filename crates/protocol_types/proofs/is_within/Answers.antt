@@ -1,9 +1,0 @@
--- The two comparisons.
-use borrow.Author.Tests.{le-leb, lt-leb}
-use Rattle.protocol_types.proofs.is_within.Goals as goal
-
-pub returns-then-x-lt1 : goal.returns-then-x-lt1
-returns-then-x-lt1 c = simp (lt-leb _ _ c.if-x-lt1.true)
-
-pub returns : goal.returns
-returns c = simp (le-leb _ _ c.if-x-lt1.false)
