@@ -35,10 +35,8 @@ pub fn put(cells: &mut Cells, first: u32, k: u32, x: u32)
 pub fn wipe(cells: &mut Cells, first: u32, n: u32)
     ensures { cells.new ≡ wiped cells.old first n }
 {
-    let mut k = 0;
-    while k < n {
+    for k in 0..n {
         put(cells, first, k, 0);
-        k += 1;
     }
 }
 
@@ -53,10 +51,8 @@ fn copy_cell(cells: &mut Cells, a: u32, b: u32, k: u32)
 pub fn copy(cells: &mut Cells, a: u32, b: u32, n: u32)
     ensures { cells.new ≡ copied cells.old a b n }
 {
-    let mut k = 0;
-    while k < n {
+    for k in 0..n {
         copy_cell(cells, a, b, k);
-        k += 1;
     }
 }
 
@@ -64,10 +60,7 @@ pub fn copy(cells: &mut Cells, a: u32, b: u32, n: u32)
 fn differ(x: u32, y: u32) -> u32
     ensures { result ≡ unlike x y }
 {
-    if x == y {
-        return 0;
-    }
-    1
+    u32::from(x != y)
 }
 
 // How many of the n cells from a on differ from those from b on.
@@ -75,10 +68,8 @@ pub fn differences(cells: &Cells, a: u32, b: u32, n: u32) -> u32
     ensures { result ≡ differing cells.now a b n }
 {
     let mut count = 0;
-    let mut k = 0;
-    while k < n {
+    for k in 0..n {
         count = sum(count, differ(get(cells, a, k), get(cells, b, k)));
-        k += 1;
     }
     count
 }
@@ -86,28 +77,23 @@ pub fn differences(cells: &Cells, a: u32, b: u32, n: u32) -> u32
 pub fn sum(a: u32, b: u32) -> u32
     ensures { result ≡ summed a b }
 {
-    std::num::wrapping_add_u32(a, b)
+    a.wrapping_add(b)
 }
 
 // a less b, and 0 where b is more.
 pub fn less(a: u32, b: u32) -> u32
     ensures { result ≡ a - b }
 {
-    if b <= a {
-        return a - b;
-    }
-    0
+    a.saturating_sub(b)
 }
 
 pub fn product(a: u32, b: u32) -> u32
     ensures { result ≡ multiplied a b }
 {
-    if a < FACTORS {
-        if b < FACTORS {
-            return a * b;
-        }
+    if a >= FACTORS || b >= FACTORS {
+        return 0;
     }
-    0
+    a * b
 }
 
 pub fn quotient(a: u32, b: u32) -> u32

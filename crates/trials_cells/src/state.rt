@@ -85,7 +85,7 @@ pub fn set_seed(cells: &mut Cells, seed: u32)
 fn follow(s: u32) -> u32
     ensures { result ≡ following s }
 {
-    (s as u64 * MULTIPLIER % MODULUS) as u32
+    (u64::from(s) * MULTIPLIER % MODULUS) as u32
 }
 
 // A number below `below`.
@@ -194,10 +194,8 @@ fn total(cells: &Cells, kind: u32) -> u32
     ensures { result ≡ totalled cells.now kind 32 }
 {
     let mut all = 0;
-    let mut number = 0;
-    while number < NUMBERS {
+    for number in 0..NUMBERS {
         all = sum(all, counted(cells, kind, number));
-        number += 1;
     }
     all
 }
@@ -212,10 +210,8 @@ fn print_count(rt: &impl Print, name: &[u8], number: u32, count: u32) {
 }
 
 fn print_counts(rt: &impl Print, cells: &Cells, kind: u32, name: &[u8]) {
-    let mut number = 0;
-    while number < NUMBERS {
+    for number in 0..NUMBERS {
         print_count(rt, name, number, counted(cells, kind, number));
-        number += 1;
     }
 }
 

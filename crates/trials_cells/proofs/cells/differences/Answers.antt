@@ -3,10 +3,7 @@ use Rattle.std.proofs.Common.{◌≡◌, refl, arith}
 use Rattle.trials_cells.proofs.cells.differences.Goals as goal
 
 pub loop-k-init : goal.loop-k-init
-loop-k-init c = (omega arith, refl)
-
-pub loop-k-smaller : goal.loop-k-smaller
-loop-k-smaller c = omega arith
+loop-k-init c = refl
 
 pub returns : goal.returns
 returns c = let e : c.loop-k.k ≡ c.args.n = omega arith in cc

@@ -4,13 +4,10 @@ use Rattle.std.proofs.Common.{◌≡◌, refl, arith}
 use Rattle.trials_cells.proofs.cells.wipe.Goals as goal
 
 pub loop-k-init : goal.loop-k-init
-loop-k-init c = (omega arith, refl)
-
-pub loop-k-smaller : goal.loop-k-smaller
-loop-k-smaller c = omega arith
+loop-k-init c = refl
 
 pub loop-k-preserved : goal.loop-k-preserved
-loop-k-preserved c = (omega arith, cc (wiped-more _ _ _))
+loop-k-preserved c = cc (wiped-more _ _ _)
 
 pub returns : goal.returns
 returns c = let e : c.loop-k.k ≡ c.args.n = omega arith in cc

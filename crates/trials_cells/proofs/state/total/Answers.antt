@@ -4,13 +4,10 @@ use Rattle.std.proofs.Common.{◌≡◌, refl, arith}
 use Rattle.trials_cells.proofs.state.total.Goals as goal
 
 pub loop-number-init : goal.loop-number-init
-loop-number-init c = (omega arith, refl)
-
-pub loop-number-smaller : goal.loop-number-smaller
-loop-number-smaller c = omega arith
+loop-number-init c = refl
 
 pub loop-number-preserved : goal.loop-number-preserved
-loop-number-preserved c = (omega arith, cc (totalled_more _ _ _))
+loop-number-preserved c = cc (totalled_more _ _ _)
 
 pub returns : goal.returns
 returns c = let e : c.loop-number.number ≡ 32 = omega arith in cc

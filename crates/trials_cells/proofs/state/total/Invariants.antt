@@ -1,9 +1,6 @@
-use Rattle.std.proofs.Common.{◌≡◌, ◌-◌, ◌≤◌}
+use Rattle.std.proofs.Common.{◌≡◌}
 use Rattle.trials_cells.specs.State.{totalled}
 use Rattle.trials_cells.proofs.state.total.Given as goal
 
 abbrev pub invariant-loop-number : goal.invariant-loop-number
-invariant-loop-number l = (l.number ≤ 32) × (l.all ≡ totalled l.cells l.kind l.number)
-
-abbrev pub decreases-loop-number : goal.decreases-loop-number
-decreases-loop-number l = 32 - l.number
+invariant-loop-number l = l.all ≡ totalled l.cells l.kind l.number
