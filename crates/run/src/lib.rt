@@ -2,6 +2,7 @@
 #![tactic(auto)]
 
 ghost use Rattle.std.specs.Prelude.{◌≡◌};
+ghost use Rattle.protocol_types.specs.Answers.{run_answer};
 ghost use Rattle.protocol.specs.Lent.{lent_masked};
 ghost use Rattle.protocol.specs.Engines.{run as ran};
 ghost use Rattle.protocol.specs.Runs.{masked_engine};
@@ -22,7 +23,7 @@ pub fn run(
     requests: &[Request],
     values: &mut [u32],
 ) -> RunAnswer
-    ensures { outcome result (lent_masked blocks.new counters.new marks.new words.new memory.new masks.new) account.new values.new
+    ensures { outcome (run_answer result) (lent_masked blocks.new counters.new marks.new words.new memory.new masks.new) account.new values.new
         ≡ ran (masked_engine setup) (lent_masked blocks.old counters.old marks.old words.old memory.old masks.old) account.old requests.now values.old }
 {
     let mut p = run_steps::begin(

@@ -9,18 +9,56 @@ use native.Mathlib.Omega.{arith}
 use lib.ListN.{length, set, length-set}
 use lib.Dec.{ltb, eqb}
 use borrow.Author.Tests.{eqb-true, ltb-true, eq-eqb, ne_eqb}
-use Rattle.protocol_types.specs.Refusals.{no_refusal}
+use Rattle.protocol_types.specs.Refusals.{no_refusal, number}
 use Rattle.protocol_types.specs.Board.{Fits}
 use Rattle.protocol_types.specs.Conditions.{request_limit}
 use Rattle.protocol.specs.Accounts.{nothing, plus, bill_of, possible, Spent}
-use Rattle.protocol.specs.Engines.{Engine}
+use Rattle.protocol.specs.Engines.{Engine, answered}
+use Rattle.std.specs.Prelude.{Option, Some, None}
+use Rattle.protocol_types.specs.Answers.{ended_with, run_answer}
+use Rattle.protocol_types.specs.declared.PlacedRefusal.{PlacedRefusal}
+use Rattle.protocol_types.specs.declared.RunAnswer.{RunAnswer as CodeAnswer}
+use Rattle.protocol_types.specs.declared.Refusal.{Refusal}
+use Rattle.protocol_types.specs.declared.Refusal.TheVariants.{SetupOutOfRange, WrongLength, NoSuchProcessor, NoSuchVariable, TooMany, MalformedLine, UnknownLabel, NoSuchBlock, BroadcastWithoutWrite, PriceOutOfRange, SeedZero, NotSearchable, UnsoundTables, ImpossibleAccount, AccountFull, LineInUse, BlockNotHeld, DropOfMarked, NoRequestLeft, CompletionNotHeld, RequestsLeft, CacheNotEmpty}
 use Rattle.protocol_types.specs.declared.Setup.{Setup}
 use Rattle.protocol_types.specs.declared.Account.{Account}
 use Rattle.protocol_types.proofs.Laws.{choice}
 use Rattle.protocol.proofs.Accounts.{spent-none, spent-plus, spent-numbers, possible-is}
 use Rattle.protocol.proofs.Engines.{Serving}
-use Rattle.run_progress.specs.declared.Progress.{Progress}
-use Rattle.run_progress.specs.Progress.{Room, Sums, begun, RunStage, Ready, stopped, advanced, taken, next_refusal, turned}
+use Rattle.run_progress.specs.Progress.{Room, Sums, Progress, begun, RunStage, Ready, stopped, advanced, taken, next_refusal, turned}
+
+-- the answer part by part
+pub answer_of : (a : CodeAnswer) → answered a.taken (run_answer a).refusal (run_answer a).place ≡ run_answer a
+answer_of a = go a.refused
+  where
+    go : (r : Option PlacedRefusal) → answered a.taken (ended_with a.taken r).refusal (ended_with a.taken r).place ≡ ended_with a.taken r
+    go None = refl
+    go (Some r) = refl
+
+-- a refusal's number is not that of none
+pub number_refuses : (r : Refusal) → eqb (number r) no_refusal ≡ false
+number_refuses SetupOutOfRange = refl
+number_refuses WrongLength = refl
+number_refuses NoSuchProcessor = refl
+number_refuses NoSuchVariable = refl
+number_refuses TooMany = refl
+number_refuses MalformedLine = refl
+number_refuses UnknownLabel = refl
+number_refuses NoSuchBlock = refl
+number_refuses BroadcastWithoutWrite = refl
+number_refuses PriceOutOfRange = refl
+number_refuses SeedZero = refl
+number_refuses NotSearchable = refl
+number_refuses UnsoundTables = refl
+number_refuses ImpossibleAccount = refl
+number_refuses AccountFull = refl
+number_refuses LineInUse = refl
+number_refuses BlockNotHeld = refl
+number_refuses DropOfMarked = refl
+number_refuses NoRequestLeft = refl
+number_refuses CompletionNotHeld = refl
+number_refuses RequestsLeft = refl
+number_refuses CacheNotEmpty = refl
 
 pub both-going : (c x : Bool) → cond c x false ≡ true → (c ≡ true) × (x ≡ true)
 both-going true x e = (refl, e)

@@ -1,5 +1,5 @@
 -- A run between two requests, of any engine: T are its tables, Q its requests.
-use Rattle.std.specs.Prelude.{ℕ, ◌+◌, ◌<◌, ◌^◌, ◌≡◌, true, false, cond, List, length, set, ltb, eqb}
+use Rattle.std.specs.Prelude.{ℕ, ◌+◌, ◌<◌, ◌^◌, ◌≡◌, Bool, true, false, cond, List, length, set, ltb, eqb}
 use Rattle.protocol_types.specs.Refusals.{no_refusal}
 use Rattle.protocol_types.specs.Board.{Fits}
 use Rattle.protocol.specs.Accounts.{nothing, plus, entered, bill_of, possible, Spent}
@@ -8,7 +8,8 @@ use Rattle.protocol_types.specs.declared.Setup.{Setup}
 use Rattle.protocol_types.specs.declared.Bill.{Bill}
 use Rattle.protocol_types.specs.declared.Account.{Account}
 use Rattle.protocol_types.specs.Answers.{RunAnswer}
-use Rattle.run_progress.specs.declared.Progress.{Progress}
+use Rattle.protocol_types.specs.Answers.{run_answer}
+use Rattle.run_progress.specs.declared.Progress.{Progress as CodeProgress}
 
 -- ---- sums that fit
 
@@ -25,7 +26,16 @@ pub record Sums (c d : Bill) : Type 0 where
   pub write-back : c.write_back + d.write_back < 2 ^ 32
   pub update : c.update + d.update < 2 ^ 32
 
--- ---- the progress itself
+-- ---- the progress itself, with the answer in the documents' numbers
+
+pub record Progress : Type 0 where
+  pub going : Bool
+  pub account : Account
+  pub bill : Bill
+  pub answer : RunAnswer
+
+abbrev pub progress_of : CodeProgress → Progress
+progress_of p = record { going = p.going; account = p.account; bill = p.bill; answer = answered p.answer.taken (run_answer p.answer).refusal (run_answer p.answer).place }
 
 -- before the first of n requests, refused by r or by 0
 unfoldable pub begun : ℕ → Account → ℕ → Progress
@@ -74,8 +84,8 @@ pub record RunStage (T : Type 0) : Type 0 where
   pub tables : T
   pub values : List ℕ
 
-abbrev pub run_stage : {T : Type 0} → Progress → T → List ℕ → RunStage T
-run_stage p t vs = record { progress = p; tables = t; values = vs }
+abbrev pub run_stage : {T : Type 0} → CodeProgress → T → List ℕ → RunStage T
+run_stage p t vs = record { progress = progress_of p; tables = t; values = vs }
 
 -- what one more request asks, where Good holds of the tables that the engine serves
 pub record Ready {T : Type 0} (s : Setup) (Good : T → Type 0) (x : RunStage T) : Type 0 where

@@ -1,13 +1,13 @@
 // A run between two requests, whatever the engine: what is checked of the account, and how the run goes on or stops.
 #![tactic(auto)]
 
-ghost use Rattle.std.specs.Prelude.{◌≡◌, false, cond, ltb, eqb, ◌*◌, ◌<◌, ◌^◌};
-ghost use Rattle.protocol_types.specs.Refusals.{no_refusal};
+ghost use Rattle.std.specs.Prelude.{◌≡◌, ◌*◌, ◌<◌, ◌^◌};
+ghost use Rattle.protocol_types.specs.Refusals.{number, refusal_number};
 ghost use Rattle.protocol_types.specs.Board.{Fits};
 ghost use Rattle.protocol.specs.Accounts.{plus, possible};
-ghost use Rattle.run_progress.specs.Progress.{Sums, begun, stopped, advanced, grown, GrowthFits, growth_of};
+ghost use Rattle.run_progress.specs.Progress.{Sums, progress_of, begun, stopped, advanced, grown, GrowthFits, growth_of};
 
-use protocol_types::{Account, Bill, RunAnswer, Setup};
+use protocol_types::{Account, Bill, PlacedRefusal, Refusal, RunAnswer, Setup};
 
 // Whether the run goes on, the account as it was at the start, the bill so far, and the answer if it stops here.
 #[derive(Clone, Copy)]
@@ -51,51 +51,53 @@ pub fn is_possible(setup: Setup, account: Account) -> bool
     account.update <= account.requests
 }
 
-// Whether a run of `count` requests goes on after a refusal number or 0.
-fn goes_on(refusal: u32, count: usize) -> bool
-    ensures { result ≡ cond (eqb refusal no_refusal) (ltb 0 count) false }
+// A run of `count` requests before its first one, of which its checks answered `checked`.
+pub fn begin(checked: Result<(), Refusal>, account: Account, count: usize) -> Progress
+    ensures { progress_of result ≡ begun (refusal_number checked) account count }
 {
-    if refusal != protocol_types::NO_REFUSAL {
-        return false;
+    let bill = Bill {
+        fetch: 0,
+        write_back: 0,
+        update: 0,
+    };
+    match checked {
+        Ok(()) => Progress {
+            going: 0 < count,
+            account,
+            bill,
+            answer: RunAnswer {
+                taken: 0,
+                refused: None,
+            },
+        },
+        Err(refusal) => Progress {
+            going: false,
+            account,
+            bill,
+            answer: RunAnswer {
+                taken: 0,
+                refused: Some(PlacedRefusal { refusal, place: 0 }),
+            },
+        },
     }
-    0 < count
 }
 
-// A run of `count` requests before its first one, refused by `refusal` or by 0.
-pub fn begin(refusal: u32, account: Account, count: usize) -> Progress
-    ensures { result ≡ begun refusal account count }
+// A run that stops at a refused request.
+pub fn stop(p: Progress, refusal: Refusal) -> Progress
+    ensures { progress_of result ≡ stopped (number refusal) (progress_of p) }
 {
-    Progress {
-        going: goes_on(refusal, count),
-        account: account,
-        bill: Bill {
-            fetch: 0,
-            write_back: 0,
-            update: 0,
-        },
-        answer: RunAnswer {
-            taken: 0,
-            refusal: refusal,
-            place: 0,
-        },
-    }
-}
-
-// A run that stops at a request refused by `refusal`.
-pub fn stop(p: Progress, refusal: u32) -> Progress
-    ensures { result ≡ stopped refusal p }
-{
-    let account = p.account;
-    let bill = p.bill;
     let taken = p.answer.taken;
+    let going = false;
     Progress {
-        going: false,
-        account: account,
-        bill: bill,
+        going,
+        account: p.account,
+        bill: p.bill,
         answer: RunAnswer {
-            taken: taken,
-            refusal: refusal,
-            place: taken,
+            taken,
+            refused: Some(PlacedRefusal {
+                refusal,
+                place: taken,
+            }),
         },
     }
 }
@@ -103,19 +105,15 @@ pub fn stop(p: Progress, refusal: u32) -> Progress
 // A run of `count` requests that took `taken` of them, the last with the bill `more`.
 pub fn advance(p: Progress, more: Bill, taken: usize, count: usize) -> Progress
     requires { Sums p.bill more }
-    ensures { result ≡ advanced taken count more p }
+    ensures { progress_of result ≡ advanced taken count more (progress_of p) }
 {
-    let account = p.account;
-    let bill = p.bill;
-    let total = added(bill, more);
     Progress {
         going: taken < count,
-        account: account,
-        bill: total,
+        account: p.account,
+        bill: added(p.bill, more),
         answer: RunAnswer {
-            taken: taken,
-            refusal: protocol_types::NO_REFUSAL,
-            place: 0,
+            taken,
+            refused: None,
         },
     }
 }
@@ -123,7 +121,7 @@ pub fn advance(p: Progress, more: Bill, taken: usize, count: usize) -> Progress
 // What a run adds to the account so far.
 pub fn growth(p: Progress) -> Account
     requires { p.answer.taken < 2 ^ 32 }
-    ensures { result ≡ growth_of p }
+    ensures { result ≡ growth_of (progress_of p) }
 {
     let answer = p.answer;
     let bill = p.bill;

@@ -13,7 +13,7 @@ use Rattle.protocol_types.specs.declared.Request.{Request}
 use Rattle.protocol_types.specs.declared.Account.{Account}
 use Rattle.protocol_types.proofs.Conditions.{no-request}
 use Rattle.engine.specs.Usable.{UsableMasked}
-use Rattle.run_progress.specs.Progress.{begun, grown, GrowthFits, growth_of, outcome, RunStage, run_stage, turned}
+use Rattle.run_progress.specs.Progress.{begun, grown, GrowthFits, growth_of, outcome, RunStage, turned}
 use Rattle.run_progress.proofs.Loop as any
 use Rattle.run_progress.proofs.Loop.{Small}
 use Rattle.run_steps.proofs.Laws.{run-passed, serving}
@@ -27,7 +27,7 @@ module _ (s : Setup) (t : Masked) (a : Account) (qs : List Request) (vs : List �
   abbrev pub μ : RunStage Masked → ℕ
   μ = any.μ s (masked_engine s) (UsableMasked s) (Valid s) (serving s) (run-passed s) t a qs vs
 
-  pub inv-start : Small a → Inv (run_stage (begun (masked_refusal s t a (length qs) vs) a (length qs)) t vs)
+  pub inv-start : Small a → Inv (record { progress = begun (masked_refusal s t a (length qs) vs) a (length qs); tables = t; values = vs })
   inv-start = any.inv-start s (masked_engine s) (UsableMasked s) (Valid s) (serving s) (run-passed s) t a qs vs
 
   module _ (x : RunStage Masked) (i : Inv x) where

@@ -2,15 +2,16 @@
 #![tactic(auto)]
 
 ghost use Rattle.std.specs.Prelude.{◌≡◌};
+ghost use Rattle.protocol_types.specs.Refusals.{refusal_number};
 ghost use Rattle.protocol.specs.Lent.{lent_masked};
 ghost use Rattle.protocol.specs.Runs.{masked_refusal, masked_engine};
 ghost use Rattle.engine.specs.Usable.{UsableMasked};
-ghost use Rattle.run_progress.specs.Progress.{begun, run_stage, Ready, turned};
+ghost use Rattle.run_progress.specs.Progress.{progress_of, begun, run_stage, Ready, turned};
 
-use protocol_types::{Account, Request, Setup};
+use protocol_types::{Account, Refusal, Request, Setup};
 use run_progress::Progress;
 
-// The refusal number of a run of `count` requests before its first one, or 0.
+// Whether a run of `count` requests is refused before its first one: 1, 10, 2, 20, 21 in this order.
 fn run_refusal<'a>(
     setup: Setup,
     blocks: &'a [u32],
@@ -22,13 +23,10 @@ fn run_refusal<'a>(
     values: &'a [u32],
     account: Account,
     count: usize,
-) -> u32
-    ensures { result ≡ masked_refusal setup (lent_masked blocks.now counters.now marks.now words.now memory.now masks.now) account count values.now }
+) -> Result<(), Refusal>
+    ensures { refusal_number result ≡ masked_refusal setup (lent_masked blocks.now counters.now marks.now words.now memory.now masks.now) account count values.now }
 {
-    let refusal = setup.refusal();
-    if refusal != protocol_types::NO_REFUSAL {
-        return refusal;
-    }
+    setup.check()?;
     if !engine_tables::lengths_fit(
         setup,
         blocks.len(),
@@ -38,18 +36,18 @@ fn run_refusal<'a>(
         memory.len(),
         masks.len(),
     ) {
-        return protocol_types::WRONG_LENGTH;
+        return Err(Refusal::WrongLength);
     }
     if values.len() != count {
-        return protocol_types::WRONG_LENGTH;
+        return Err(Refusal::WrongLength);
     }
     if !engine_soundness::is_sound(setup, blocks, counters, marks, words, memory, masks) {
-        return protocol_types::UNSOUND_TABLES;
+        return Err(Refusal::UnsoundTables);
     }
     if !run_progress::is_possible(setup, account) {
-        return protocol_types::IMPOSSIBLE_ACCOUNT;
+        return Err(Refusal::ImpossibleAccount);
     }
-    protocol_types::NO_REFUSAL
+    Ok(())
 }
 
 // A run before its first request.
@@ -65,12 +63,12 @@ pub fn begin<'a>(
     account: Account,
     count: usize,
 ) -> Progress
-    ensures { result ≡ begun (masked_refusal setup (lent_masked blocks.now counters.now marks.now words.now memory.now masks.now) account count values.now) account count }
+    ensures { progress_of result ≡ begun (masked_refusal setup (lent_masked blocks.now counters.now marks.now words.now memory.now masks.now) account count values.now) account count }
 {
-    let refusal = run_refusal(
+    let checked = run_refusal(
         setup, blocks, counters, marks, words, memory, masks, values, account, count,
     );
-    run_progress::begin(refusal, account, count)
+    run_progress::begin(checked, account, count)
 }
 
 // One request of a run: it is served, or the run stops.
@@ -90,18 +88,17 @@ pub fn turn<'a>(
     ensures { run_stage result (lent_masked blocks.new counters.new marks.new words.new memory.new masks.new) values.new
         ≡ turned (masked_engine setup) (run_stage p (lent_masked blocks.old counters.old marks.old words.old memory.old masks.old) values.old) request }
 {
-    let account = p.account;
     let taken = p.answer.taken;
     let count = values.len();
-    let refusal = setup.request_refusal(account.requests + taken as u32, request);
-    if refusal != protocol_types::NO_REFUSAL {
-        return run_progress::stop(p, refusal);
+    match setup.check_request(p.account.requests + taken as u32, request) {
+        Ok(()) => {
+            let served = engine::serve(
+                setup, request, blocks, counters, marks, words, memory, masks,
+            );
+            let next = taken + 1;
+            values[taken] = served.value;
+            run_progress::advance(p, served.bill, next, count)
+        }
+        Err(refusal) => run_progress::stop(p, refusal),
     }
-    let served = engine::serve(
-        setup, request, blocks, counters, marks, words, memory, masks,
-    );
-    let next = taken + 1;
-    values[taken] = served.value;
-    let more = served.bill;
-    run_progress::advance(p, more, next, count)
 }

@@ -7,8 +7,7 @@ use Rattle.protocol_types.proofs.Conditions.{no-request}
 use Rattle.protocol.specs.Lent.{lent_masked}
 use Rattle.protocol.specs.Masks.{Masked}
 use Rattle.protocol.specs.Runs.{masked_engine}
-use Rattle.run_progress.specs.Progress.{begun, RunStage, run_stage, turned}
-use Rattle.run_progress.specs.declared.Progress.{Progress}
+use Rattle.run_progress.specs.Progress.{Progress, begun, RunStage, run_stage, turned}
 use Rattle.run_progress.proofs.Loop.{Small}
 use Rattle.run_steps.proofs.Loop.{Inv, μ, inv-start, inv-turn, inv-falls}
 use Rattle.run.proofs.run.Goals as goal
@@ -27,7 +26,7 @@ loop-p-init c =
     let a = c.args in
     let t = lent_masked a.blocks.now a.counters.now a.marks.now a.words.now a.memory.now a.masks.now in
     let fits = c.begin-p.type_inv.1.1.1.0.1.1 in
-    subst (λ (p : Progress). Inv a.setup t a.account.now a.requests.now a.values.now (run_stage p t a.values.now)) (sym c.begin-p.ensures)
+    subst (λ (p : Progress). Inv a.setup t a.account.now a.requests.now a.values.now (record { progress = p; tables = t; values = a.values.now })) (sym c.begin-p.ensures)
     (inv-start a.setup t a.account.now a.requests.now a.values.now (subst Small (ap (λ (p : Progress). p.account) c.begin-p.ensures) (fits.0.1, (fits.1.0.1, (fits.1.1.0.1, fits.1.1.1.0.1)))))
 
 pub loop-p-smaller : goal.loop-p-smaller

@@ -6,4 +6,4 @@ use Rattle.run_steps.proofs.begin.Goals as goal
 pub returns : goal.returns
 returns c =
     let a = c.args in
-    c.begin.ensures ∙ ap (λ n. begun n a.account a.count) c.run_refusal-refusal.ensures
+    c.begin.ensures ∙ ap (λ n. begun n a.account a.count) c.run_refusal-checked.ensures

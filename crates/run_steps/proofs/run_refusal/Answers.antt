@@ -1,29 +1,30 @@
 -- The first condition met gives the number: each test by what it passed or failed, and the setup fits once it is not refused (setup-fits).
-use mathlib.Core.Path.{sym, ◌∙◌}
+use mathlib.Core.Path.{refl, sym, ◌∙◌}
 use borrow.Author.Tests.{eq-eqb, ne_eqb}
 use Rattle.protocol.specs.Tables.{tables}
 use Rattle.protocol.specs.Masks.{masked}
 use Rattle.protocol.specs.Runs.{masked_refusal}
 use Rattle.protocol_types.proofs.Board.{setup-fits}
-use Rattle.protocol_types.proofs.Refusals.{code-refuses}
+use Rattle.protocol_types.proofs.Refusals.{refusal-at_exit}
 use Rattle.engine_tables.proofs.Tests.{sized-is, passed-lengths}
+use Rattle.run_progress.proofs.Laws.{number_refuses}
 use Rattle.run_steps.proofs.run_refusal.Goals as goal
 
-pub returns-then-refusal-ne-NO_REFUSAL : goal.returns-then-refusal-ne-NO_REFUSAL
+pub returns-in_err-check : goal.returns-in_err-check
 unfolding masked_refusal
-returns-then-refusal-ne-NO_REFUSAL c =
-    rw (code-refuses _ _ c.refusal-refusal.ensures c.if-refusal-ne-NO_REFUSAL.true) c.refusal-refusal.ensures
+returns-in_err-check c =
+    rw (sym c.in_err-check.ensures, number_refuses _) (refusal-at_exit _ _ c.from_residual.result c.from_residual.ensures.1 refl)
 
 pub lengths_fit-requires : goal.lengths_fit-requires
 lengths_fit-requires c =
-    setup-fits c.args.setup (sym c.refusal-refusal.ensures ∙ c.if-refusal-ne-NO_REFUSAL.false)
+    setup-fits c.args.setup (sym c.in_ok-check.ensures)
 
 pub returns-then-not-lengths_fit : goal.returns-then-not-lengths_fit
 unfolding masked_refusal
 returns-then-not-lengths_fit c =
     let a = c.args in
     let x = masked (tables a.blocks.now a.counters.now a.marks.now a.words.now a.memory.now) a.masks.now in
-    rw (sym c.refusal-refusal.ensures ∙ c.if-refusal-ne-NO_REFUSAL.false, sized-is a.setup x ∙ sym c.lengths_fit.ensures ∙ c.if-not-lengths_fit.true)
+    rw (sym c.in_ok-check.ensures, sized-is a.setup x ∙ sym c.lengths_fit.ensures ∙ c.if-not-lengths_fit.true)
 
 pub returns-then-values-count : goal.returns-then-values-count
 unfolding masked_refusal
@@ -31,7 +32,7 @@ returns-then-values-count c =
     let a = c.args in
     let x = masked (tables a.blocks.now a.counters.now a.marks.now a.words.now a.memory.now) a.masks.now in
     rw (
-      sym c.refusal-refusal.ensures ∙ c.if-refusal-ne-NO_REFUSAL.false,
+      sym c.in_ok-check.ensures,
       sized-is a.setup x ∙ sym c.lengths_fit.ensures ∙ c.if-not-lengths_fit.false,
       ne_eqb _ _ c.if-values-count.true,
     )
@@ -41,7 +42,7 @@ is_sound-requires c =
     let a = c.args in
     let x = masked (tables a.blocks.now a.counters.now a.marks.now a.words.now a.memory.now) a.masks.now in
     let l = passed-lengths a.setup x (sized-is a.setup x ∙ sym c.lengths_fit.ensures ∙ c.if-not-lengths_fit.false) in record {
-      fits = setup-fits a.setup (sym c.refusal-refusal.ensures ∙ c.if-refusal-ne-NO_REFUSAL.false);
+      fits = setup-fits a.setup (sym c.in_ok-check.ensures);
       sized = l.0;
       masks_len = l.1;
     }
@@ -52,7 +53,7 @@ returns-then-not-is_sound c =
     let a = c.args in
     let x = masked (tables a.blocks.now a.counters.now a.marks.now a.words.now a.memory.now) a.masks.now in
     rw (
-      sym c.refusal-refusal.ensures ∙ c.if-refusal-ne-NO_REFUSAL.false,
+      sym c.in_ok-check.ensures,
       sized-is a.setup x ∙ sym c.lengths_fit.ensures ∙ c.if-not-lengths_fit.false,
       eq-eqb _ _ c.if-values-count.false,
       sym c.is_sound.ensures ∙ c.if-not-is_sound.true,
@@ -61,7 +62,7 @@ returns-then-not-is_sound c =
 pub is_possible-requires : goal.is_possible-requires
 is_possible-requires c =
     let a = c.args in
-    setup-fits a.setup (sym c.refusal-refusal.ensures ∙ c.if-refusal-ne-NO_REFUSAL.false)
+    setup-fits a.setup (sym c.in_ok-check.ensures)
 
 pub returns-then-not-is_possible : goal.returns-then-not-is_possible
 unfolding masked_refusal
@@ -69,7 +70,7 @@ returns-then-not-is_possible c =
     let a = c.args in
     let x = masked (tables a.blocks.now a.counters.now a.marks.now a.words.now a.memory.now) a.masks.now in
     rw (
-      sym c.refusal-refusal.ensures ∙ c.if-refusal-ne-NO_REFUSAL.false,
+      sym c.in_ok-check.ensures,
       sized-is a.setup x ∙ sym c.lengths_fit.ensures ∙ c.if-not-lengths_fit.false,
       eq-eqb _ _ c.if-values-count.false,
       sym c.is_sound.ensures ∙ c.if-not-is_sound.false,
@@ -82,7 +83,7 @@ returns c =
     let a = c.args in
     let x = masked (tables a.blocks.now a.counters.now a.marks.now a.words.now a.memory.now) a.masks.now in
     rw (
-      sym c.refusal-refusal.ensures ∙ c.if-refusal-ne-NO_REFUSAL.false,
+      sym c.in_ok-check.ensures,
       sized-is a.setup x ∙ sym c.lengths_fit.ensures ∙ c.if-not-lengths_fit.false,
       eq-eqb _ _ c.if-values-count.false,
       sym c.is_sound.ensures ∙ c.if-not-is_sound.false,
