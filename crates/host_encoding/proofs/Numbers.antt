@@ -40,7 +40,7 @@ operation-back (Read v) = refl
 operation-back (Write v x) = refl
 operation-back Clear = refl
 
-request-back : (q : Request) → request_of q.processor (operation_number q.operation) (variable_number q.operation) (value_number q.operation) ≡ q
+pub request-back : (q : Request) → request_of q.processor (operation_number q.operation) (variable_number q.operation) (value_number q.operation) ≡ q
 unfolding request_of
 request-back q = ap (λ (o : Operation). record { processor = q.processor; operation = o }) (operation-back q.operation)
 
@@ -62,7 +62,7 @@ length-schedule = length-each entry_numbers entry_width (λ e. refl)
 pub schedule-append : (es fs : List Entry) → schedule_numbers (es ++ fs) ≡ schedule_numbers es ++ schedule_numbers fs
 schedule-append = append-each entry_numbers
 
-entry-back : (e : Entry) → entry_of (kind_number e) (processor_number e) (block_number e) ≡ e
+pub entry-back : (e : Entry) → entry_of (kind_number e) (processor_number e) (block_number e) ≡ e
 unfolding entry_of
 entry-back (Fetch i b) = refl
 entry-back (WriteBack i b) = refl
