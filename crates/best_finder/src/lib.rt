@@ -10,7 +10,8 @@ ghost use Rattle.best_lowest.specs.Lowest.{lowest_of};
 ghost use Rattle.best_tries.specs.Progress.{state_at};
 ghost use Rattle.best_finder.specs.Moves.{Moved, OpenNext};
 
-use best_tries::Progress;
+use best_moves::{legal_at, next_at, price_at};
+use best_tries::{ENTRY_COUNT, LAYER_SIZE, POSITION_COUNT, Progress};
 use protocol_types::Setup;
 
 // One move of the search: an entry is tried or passed over, or the current position is settled.
@@ -23,24 +24,26 @@ fn advance(
     predecessors: &mut [u32],
     lowest: &mut [u32],
 ) -> Progress
-    requires { Fits setup × (length asks.now ≤ 24) × (length distances.old ≡ 32400) × (length order.old ≡ 32400) × (length predecessors.old ≡ 32400) × (length lowest.old ≡ 900)
-        × (p.current < 32400) × (p.settled < 32400) × (p.used < 583201) × (1 ≤ at distances.old p.current) × (at distances.old p.current ≤ 60001)
-        × OpenNext (board setup asks.now) distances.old order.old p.current p.code × (lowest.old ≡ lowest_of distances.old order.old) }
-    ensures { ((ts : List Tried) → length ts ≡ p.used → Moved (board setup asks.now) (state_at distances.old order.old predecessors.old p ts)
-        distances.new order.new predecessors.new result) × (lowest.new ≡ lowest_of distances.new order.new) }
+    requires fits { Fits setup × (length asks.now ≤ 24) }
+    requires sized { (length distances.old ≡ 32400) × (length order.old ≡ 32400) × (length predecessors.old ≡ 32400) × (length lowest.old ≡ 900) }
+    requires few { (p.current < 32400) × (p.settled < 32400) × (p.used < 583201) }
+    requires reached { (1 ≤ at distances.old p.current) × (at distances.old p.current ≤ 60001) }
+    requires next { OpenNext (board setup asks.now) distances.old order.old p.current p.code }
+    requires table { lowest.old ≡ lowest_of distances.old order.old }
+    ensures moved { (ts : List Tried) → length ts ≡ p.used → Moved (board setup asks.now) (state_at distances.old order.old predecessors.old p ts)
+        distances.new order.new predecessors.new result }
+    ensures table { lowest.new ≡ lowest_of distances.new order.new }
 {
-    let u = p.current;
-    let k = p.code;
-    if 18 <= k {
+    if ENTRY_COUNT <= p.code {
         return best_tries::settle_current(p, distances, order, lowest);
     }
-    if !best_moves::legal_at(setup, asks, u, k) {
-        return best_tries::passed(p, p.used);
+    if !legal_at(setup, asks, p.current, p.code) {
+        return p.passed(p.used);
     }
-    let w = best_moves::next_at(asks, u, k);
-    let price = best_moves::price_at(setup, asks, u, k);
-    let last = w / 1296 == asks.len();
-    best_tries::try_entry(p, w, price, last, distances, predecessors, lowest)
+    let next = next_at(asks, p.current, p.code);
+    let price = price_at(setup, asks, p.current, p.code);
+    let last = next / LAYER_SIZE == asks.len();
+    best_tries::try_entry(p, next, price, last, distances, predecessors, lowest)
 }
 
 // Whether the search is over, or before a try with no step left.
@@ -48,18 +51,13 @@ fn halted(setup: Setup, asks: &[u32], p: Progress, steps: u32) -> bool
     requires { Fits setup }
     ensures { (d o v : List ℕ) (ts : List Tried) → length ts ≡ p.used → result ≡ halts (board setup asks.now) steps (state_at d o v p ts) }
 {
-    let u = p.current;
-    let k = p.code;
-    if 32400 <= u {
+    if POSITION_COUNT <= p.current {
         return true;
     }
-    if p.used < steps {
+    if p.used < steps || ENTRY_COUNT <= p.code {
         return false;
     }
-    if 18 <= k {
-        return false;
-    }
-    best_moves::legal_at(setup, asks, u, k)
+    legal_at(setup, asks, p.current, p.code)
 }
 
 // The search, from tables in which only position 0 is reached.
@@ -73,25 +71,26 @@ fn search_from_start(
     predecessors: &mut [u32],
     lowest: &mut [u32],
 ) -> Progress
-    requires { Fits setup × (length asks.now ≤ 24) × (own ≤ 60000) × (length asks.now ≡ 0 → own ≡ 0) × (distances.old ≡ (initial (board setup asks.now) own).dist)
-        × (order.old ≡ (initial (board setup asks.now) own).order) × (predecessors.old ≡ (initial (board setup asks.now) own).via) × (length lowest.old ≡ 900)
-        × (lowest.old ≡ lowest_of distances.old order.old) }
-    ensures { (state_at distances.new order.new predecessors.new result (searched (board setup asks.now) own steps).tries
-        ≡ searched (board setup asks.now) own steps) × (result.used ≡ length (searched (board setup asks.now) own steps).tries)
-        × (lowest.new ≡ lowest_of distances.new order.new) }
+    requires fits { Fits setup × (length asks.now ≤ 24) }
+    requires own_cost { (own ≤ 60000) × (length asks.now ≡ 0 → own ≡ 0) }
+    requires distances { distances.old ≡ (initial (board setup asks.now) own).dist }
+    requires order { order.old ≡ (initial (board setup asks.now) own).order }
+    requires predecessors { predecessors.old ≡ (initial (board setup asks.now) own).via }
+    requires lowest { (length lowest.old ≡ 900) × (lowest.old ≡ lowest_of distances.old order.old) }
+    ensures state { state_at distances.new order.new predecessors.new result (searched (board setup asks.now) own steps).tries
+        ≡ searched (board setup asks.now) own steps }
+    ensures count { result.used ≡ length (searched (board setup asks.now) own steps).tries }
+    ensures table { lowest.new ≡ lowest_of distances.new order.new }
 {
     let mut p = Progress {
         current: 0,
         code: 0,
         settled: 0,
         limit: own,
-        goal: 32400,
+        goal: POSITION_COUNT,
         used: 0,
     };
-    loop {
-        if halted(setup, asks, p, steps) {
-            break;
-        }
+    while !halted(setup, asks, p, steps) {
         p = advance(setup, asks, p, distances, order, predecessors, lowest);
     }
     p
@@ -102,7 +101,7 @@ fn begin(table: &mut [u32])
     requires { 1 ≤ length table.old }
     ensures { table.new ≡ set (zeros (length table.old)) 0 1 }
 {
-    parts::clear(table);
+    table.fill(0);
     table[0] = 1;
 }
 
@@ -117,15 +116,17 @@ pub fn search(
     predecessors: &mut [u32],
     lowest: &mut [u32],
 ) -> Progress
-    requires { Fits setup × (length asks.now ≤ 24) × (own ≤ 60000) × (length asks.now ≡ 0 → own ≡ 0) × (length distances.old ≡ 32400) × (length order.old ≡ 32400)
-        × (length predecessors.old ≡ 32400) × (length lowest.old ≡ 900) }
-    ensures { (state_at distances.new order.new predecessors.new result (searched (board setup asks.now) own steps).tries
-        ≡ searched (board setup asks.now) own steps) × (result.used ≡ length (searched (board setup asks.now) own steps).tries)
-        × (lowest.new ≡ lowest_of distances.new order.new) }
+    requires fits { Fits setup × (length asks.now ≤ 24) }
+    requires own_cost { (own ≤ 60000) × (length asks.now ≡ 0 → own ≡ 0) }
+    requires sized { (length distances.old ≡ 32400) × (length order.old ≡ 32400) × (length predecessors.old ≡ 32400) × (length lowest.old ≡ 900) }
+    ensures state { state_at distances.new order.new predecessors.new result (searched (board setup asks.now) own steps).tries
+        ≡ searched (board setup asks.now) own steps }
+    ensures count { result.used ≡ length (searched (board setup asks.now) own steps).tries }
+    ensures table { lowest.new ≡ lowest_of distances.new order.new }
 {
     begin(distances);
-    parts::clear(order);
-    parts::clear(predecessors);
+    order.fill(0);
+    predecessors.fill(0);
     begin(lowest);
     search_from_start(
         setup,

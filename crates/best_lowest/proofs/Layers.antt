@@ -1,7 +1,7 @@
 -- The search for the next position: the first of the cheapest open positions is the only one that is open, least and the first of those, and so is what the
 -- two stages choose, the nearest group and then the first position there that has its distance.
 use Prim.Native.Nat.{ℕ, zero, suc, ◌+◌, ◌-◌, ◌*◌, ◌/◌, ◌≤◌, ◌<◌}
-use mathlib.Core.Path.{◌≡◌, sym, ap, ◌∙◌}
+use mathlib.Core.Path.{◌≡◌, refl, sym, ap, ◌∙◌}
 use mathlib.Core.Logic.{◌≢◌}
 use mathlib.Core.Bool.{Bool, true, false, ◌&&◌, cond, true≢false}
 use mathlib.Core.List.{List}
@@ -9,6 +9,7 @@ use native.Mathlib.Omega.{arith}
 use native.Mathlib.Numerals.{add-one}
 use lib.Dec.{leb, ltb, eqb}
 use borrow.Author.Tests.{ltb-true, leb-true, eqb-true, eq-eqb, ne_eqb, lt-ltb, le-ltb, le-leb}
+use Rattle.std.specs.Prelude.{Option, None, Some, unwrap_or, IfSome}
 use Rattle.protocol_types.specs.Lists.{at, first, smaller, argmin_below}
 use Rattle.protocol_types.proofs.Laws.{Same, same, apart, same?, Under, under, over, under?, Known, sure, not_so, known, three-true, choice}
 use Rattle.protocol_types.proofs.Laws.{first_holds, first-before, first-none, Smallest, smallest-only, Argmin, none_pass, some-pass, argmin-below}
@@ -221,6 +222,12 @@ module _ (dist order lowest : List ℕ) (limit layer g : ℕ) (l : layer < 25) (
       where
         assoc : layer * 1296 + 36 * g + k ≡ layer * 1296 + (36 * g + k)
         assoc = omega arith
+
+    -- as a position, if there is one; there is
+    pub layer-place : (r : Option ℕ) → unwrap_or r ((layer * 36 + g) * 36 + 36) ≡ (layer * 36 + g) * 36 + first 36 fits
+        → (unwrap_or r 32400 ≡ cheapest 32400 dist order limit (layer * 1296) 1296) × IfSome r (λ v. v < 32400)
+    layer-place None e = absurd (omega (arith, e, found))
+    layer-place (Some v) e = (e ∙ layer-near (first 36 fits) refl, omega (arith, e, found, inside, l))
 
 -- ---- one layer after the other
 

@@ -1,48 +1,48 @@
 // The next position of the search, found by the table of the smallest distance of each group of 36 positions.
 #![tactic(auto)]
 
-ghost use Rattle.std.specs.Prelude.{◌≡◌, ℕ, ◌+◌, ◌-◌, ◌*◌, ◌/◌, ◌<◌, ◌≤◌, length, set, ltb, eqb};
+ghost use Rattle.std.specs.Prelude.{◌≡◌, ℕ, ◌+◌, ◌-◌, ◌*◌, ◌/◌, ◌<◌, ◌≤◌, length, set, ltb, eqb, unwrap_or, IfSome};
 ghost use Rattle.protocol_types.specs.Lists.{at, first, smaller};
 ghost use Rattle.best_search.specs.Search.{cheapest, upcoming};
 ghost use Rattle.best_lowest.specs.Lowest.{waiting, nearer, lowest_in, lowest_of, group_below};
 
+// There are 25 layers of 36 groups, and a group is 36 positions.
+const GROUP_SIZE: usize = 36;
+
+const LAYER_GROUPS: usize = 36;
+
+const LAYER_COUNT: usize = 25;
+
 // The distance of position v while it is reached and not settled; else 0.
+#[tactic(auto, unfolding(crate::specs::Lowest::waiting))]
 fn waiting(v: usize, distances: &[u32], order: &[u32]) -> u32
     requires { (v < length distances.now) × (v < length order.now) }
     ensures { result ≡ waiting distances.now order.now v }
 {
-    if order[v] != 0 {
-        return 0;
-    }
-    distances[v]
+    if order[v] == 0 { distances[v] } else { 0 }
 }
 
 // The smaller of two distances, of which 0 is none.
+#[tactic(auto, unfolding(crate::specs::Lowest::nearer))]
 fn nearer(a: u32, b: u32) -> u32
     ensures { result ≡ nearer a b }
 {
-    if b == 0 {
-        return a;
+    match (a, b) {
+        (_, 0) => a,
+        (0, _) => b,
+        _ => a.min(b),
     }
-    if a == 0 {
-        return b;
-    }
-    if b < a {
-        return b;
-    }
-    a
 }
 
 // The smallest distance of `count` positions, of which those count that are reached and not settled; 0 if there is none.
+#[tactic(auto, unfolding(crate::specs::Lowest::lowest_in))]
 fn lowest_in(start: usize, count: usize, distances: &[u32], order: &[u32]) -> u32
     requires { (start + count ≤ length distances.now) × (start + count ≤ length order.now) }
     ensures { result ≡ lowest_in distances.now order.now start count }
 {
-    let mut least: u32 = 0;
-    let mut j: usize = 0;
-    while j < count {
+    let mut least = 0;
+    for j in 0..count {
         least = nearer(least, waiting(start + j, distances, order));
-        j += 1;
     }
     least
 }
@@ -54,68 +54,69 @@ fn first_waiting(
     distance: u32,
     distances: &[u32],
     order: &[u32],
-) -> usize
+) -> Option<usize>
     requires { (start + count ≤ length distances.now) × (start + count ≤ length order.now) }
-    ensures { (result ≡ first count (λ j. eqb (waiting distances.now order.now (start + j)) distance)) × (result ≤ count) }
+    ensures { unwrap_or result (start + count) ≡ start + first count (λ j. eqb (waiting distances.now order.now (start + j)) distance) }
 {
-    let mut j: usize = 0;
-    while j < count {
+    for j in 0..count {
         if waiting(start + j, distances, order) == distance {
-            break;
+            return Some(start + j);
         }
-        j += 1;
     }
-    j
+    None
 }
 
-// Of groups k and j from `start` on, the one with the smaller distance, k if they are equal; 36 is none.
-fn nearer_group(start: usize, k: usize, j: usize, lowest: &[u32]) -> usize
-    requires { (start + 36 ≤ length lowest.now) × (k ≤ 36) × (j < 36) }
-    ensures { (result ≡ smaller 36 (λ i. ltb 0 (at lowest.now (start + i))) (λ i. at lowest.now (start + i)) k j) × (result ≤ 36) }
+// Of groups k and j from `start` on, the one with the smaller distance, k if they are equal.
+fn nearer_group(start: usize, k: Option<usize>, j: usize, lowest: &[u32]) -> Option<usize>
+    requires sized { start + 36 ≤ length lowest.now }
+    requires before { IfSome k (λ i. i < 36) }
+    requires next { j < 36 }
+    ensures choice { unwrap_or result 36 ≡ smaller 36 (λ i. ltb 0 (at lowest.now (start + i))) (λ i. at lowest.now (start + i)) (unwrap_or k 36) j }
+    ensures within { IfSome result (λ i. i < 36) }
 {
     let distance = lowest[start + j];
-    if distance == 0 {
-        return k;
+    match k {
+        _ if distance == 0 => k,
+        Some(i) if lowest[start + i] <= distance => k,
+        _ => Some(j),
     }
-    if k == 36 {
-        return j;
-    }
-    if distance < lowest[start + k] {
-        return j;
-    }
-    k
 }
 
-// The first of the 36 groups from `start` on that has the smallest distance; 36 if none has any.
-fn nearest_group(start: usize, lowest: &[u32]) -> usize
+// The first of the groups of a layer, from group `start` on, that has the smallest distance.
+#[tactic(auto, unfolding(crate::specs::Lowest::group_below))]
+fn nearest_group(start: usize, lowest: &[u32]) -> Option<usize>
     requires { start + 36 ≤ length lowest.now }
-    ensures { (result ≡ group_below lowest.now start 36) × (result ≤ 36) }
+    ensures choice { unwrap_or result 36 ≡ group_below lowest.now start 36 }
+    ensures within { IfSome result (λ i. i < 36) }
 {
-    let mut k: usize = 36;
-    let mut j: usize = 0;
-    while j < 36 {
-        k = nearer_group(start, k, j, lowest);
-        j += 1;
+    let mut nearest = None;
+    for j in 0..LAYER_GROUPS {
+        nearest = nearer_group(start, nearest, j, lowest);
     }
-    k
+    nearest
 }
 
-// The first of the cheapest open positions of a layer; 32,400 if none is open.
-fn cheapest_of(layer: usize, limit: u32, distances: &[u32], order: &[u32], lowest: &[u32]) -> usize
-    requires { (length distances.now ≡ 32400) × (length order.now ≡ 32400) × (length lowest.now ≡ 900) × (layer < 25) × (lowest.now ≡ lowest_of distances.now order.now) }
-    ensures { (result ≡ cheapest 32400 distances.now order.now limit (layer * 1296) 1296) × (result ≤ 32400) }
+// The first of the cheapest open positions of a layer.
+fn cheapest_of(
+    layer: usize,
+    limit: u32,
+    distances: &[u32],
+    order: &[u32],
+    lowest: &[u32],
+) -> Option<usize>
+    requires sized { (length distances.now ≡ 32400) × (length order.now ≡ 32400) × (length lowest.now ≡ 900) }
+    requires layer { layer < 25 }
+    requires table { lowest.now ≡ lowest_of distances.now order.now }
+    ensures choice { unwrap_or result 32400 ≡ cheapest 32400 distances.now order.now limit (layer * 1296) 1296 }
+    ensures within { IfSome result (λ v. v < 32400) }
 {
-    let start = layer * 36;
-    let group = nearest_group(start, lowest);
-    if 36 <= group {
-        return 32400;
-    }
-    let distance = lowest[start + group];
+    let start = layer * LAYER_GROUPS;
+    let group = start + nearest_group(start, lowest)?;
+    let distance = lowest[group];
     if limit < distance {
-        return 32400;
+        return None;
     }
-    let begin = (start + group) * 36;
-    begin + first_waiting(begin, 36, distance, distances, order)
+    first_waiting(group * GROUP_SIZE, GROUP_SIZE, distance, distances, order)
 }
 
 // The same in the first layer, from this one on, that has an open position.
@@ -125,20 +126,19 @@ pub fn upcoming_from(
     distances: &[u32],
     order: &[u32],
     lowest: &[u32],
-) -> usize
-    requires { (length distances.now ≡ 32400) × (length order.now ≡ 32400) × (length lowest.now ≡ 900) × (layer ≤ 25) × (lowest.now ≡ lowest_of distances.now order.now) }
-    ensures { result ≡ upcoming 32400 1296 distances.now order.now limit (25 - layer) layer }
+) -> Option<usize>
+    requires sized { (length distances.now ≡ 32400) × (length order.now ≡ 32400) × (length lowest.now ≡ 900) }
+    requires layer { layer ≤ 25 }
+    requires table { lowest.now ≡ lowest_of distances.now order.now }
+    ensures choice { unwrap_or result 32400 ≡ upcoming 32400 1296 distances.now order.now limit (25 - layer) layer }
+    ensures within { IfSome result (λ v. v < 32400) }
 {
-    let mut l = layer;
-    let mut p: usize = 32400;
-    while l < 25 {
-        p = cheapest_of(l, limit, distances, order, lowest);
-        if p < 32400 {
-            break;
+    for l in layer..LAYER_COUNT {
+        if let Some(position) = cheapest_of(l, limit, distances, order, lowest) {
+            return Some(position);
         }
-        l += 1;
     }
-    p
+    None
 }
 
 // Position w now waits at this distance, which is smaller than its old one.
@@ -146,15 +146,16 @@ pub fn lower_group(lowest: &mut [u32], w: usize, distance: u32)
     requires { w / 36 < length lowest.old }
     ensures { lowest.new ≡ set lowest.old (w / 36) (nearer (at lowest.old (w / 36)) distance) }
 {
-    let group = w / 36;
+    let group = w / GROUP_SIZE;
     lowest[group] = nearer(lowest[group], distance);
 }
 
 // Position u waits no more.
 pub fn rescan_group(lowest: &mut [u32], distances: &[u32], order: &[u32], u: usize)
-    requires { (length distances.now ≡ 32400) × (length order.now ≡ 32400) × (length lowest.old ≡ 900) × (u < 32400) }
+    requires sized { (length distances.now ≡ 32400) × (length order.now ≡ 32400) × (length lowest.old ≡ 900) }
+    requires position { u < 32400 }
     ensures { lowest.new ≡ set lowest.old (u / 36) (lowest_in distances.now order.now (36 * (u / 36)) 36) }
 {
-    let group = u / 36;
-    lowest[group] = lowest_in(36 * group, 36, distances, order);
+    let group = u / GROUP_SIZE;
+    lowest[group] = lowest_in(GROUP_SIZE * group, GROUP_SIZE, distances, order);
 }

@@ -29,11 +29,14 @@ module _ (g : Graph) (d o v : List ℕ) (p : Progress) (w n : ℕ) (ts us : List
   way : set v w (18 * p.current + p.code) ≡ set v w (g.codes * p.current + p.code)
   way = ap (λ z. set v w (z * p.current + p.code)) (sym eighteen)
 
-  pub lower-better : (x : ℕ) → g.final w ≡ true → n ≤ p.limit
-      → state_at (set d w n) o (set v w (18 * p.current + p.code)) (record { current = p.current; code = p.code + 1; settled = p.settled; limit = n - 1; goal = w; used = x }) us
+  -- r is past the entry, and its limit and goal change with the tables
+  pub lower-better : (r : Progress) → ((d o v : List ℕ) (ts us : List Tried) → state_at d o v r us ≡ past (state_at d o v p ts) us) → g.final w ≡ true → n ≤ p.limit
+      → state_at (set d w n) o (set v w (18 * p.current + p.code)) (record { current = r.current; code = r.code; settled = r.settled; limit = n - 1; goal = w; used = r.used }) us
       ≡ past (lowered g (state_at d o v p ts) w n) us
   unfolding past lowered
-  lower-better x e l = state-path refl refl way refl (add-one p.code) refl (rw (e, le-leb n p.limit l)) (rw (e, le-leb n p.limit l)) refl
+  lower-better r q e l =
+      let x = q d o v ts us in
+      state-path refl refl way (ap (λ (z : State). z.current) x) (ap (λ (z : State). z.code) x) (ap (λ (z : State). z.settled) x) (rw (e, le-leb n p.limit l)) (rw (e, le-leb n p.limit l)) refl
 
   -- what is past the entry with the same limit, with the tables changed
   pub lower-same : (r : Progress) → ((d o v : List ℕ) (ts us : List Tried) → state_at d o v r us ≡ past (state_at d o v p ts) us) → (g.final w ≡ true → p.limit < n)

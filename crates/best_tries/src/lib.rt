@@ -25,40 +25,47 @@ pub struct Progress {
     pub used: u32,
 }
 
-// Past the current entry.
-pub fn passed(p: Progress, used: u32) -> Progress
-    requires { p.code < 18 }
-    ensures { ((d o v : List ℕ) (ts us : List Tried) → state_at d o v result us ≡ past (state_at d o v p ts) us) × (result.used ≡ used) }
-{
-    Progress {
-        current: p.current,
-        code: p.code + 1,
-        settled: p.settled,
-        limit: p.limit,
-        goal: p.goal,
-        used: used,
-    }
-}
+// The entries of a position, and the positions of a layer and of all.
+pub const ENTRY_COUNT: usize = 18;
 
-// Past the current entry, by which position w was reached at this distance.
-fn lowered(p: Progress, w: usize, last: bool, distance: u32) -> Progress
-    requires { (1 ≤ distance) × (p.code < 18) × (p.used < 583201) }
-    ensures { ((g : Graph) → g.codes ≡ 18 → g.final w ≡ last → (d o v : List ℕ) (ts us : List Tried)
-        → state_at (set d w distance) o (set v w (18 * p.current + p.code)) result us ≡ past (lowered g (state_at d o v p ts) w distance) us) × (result.used ≡ p.used + 1) }
-{
-    if last {
-        if distance <= p.limit {
-            return Progress {
-                current: p.current,
-                code: p.code + 1,
-                settled: p.settled,
-                limit: distance - 1,
-                goal: w,
-                used: p.used + 1,
-            };
+pub const LAYER_SIZE: usize = 1296;
+
+pub const POSITION_COUNT: usize = 32400;
+
+impl Progress {
+    // Past the current entry.
+    pub fn passed(self, used: u32) -> Progress
+        requires { self.code < 18 }
+        ensures state { (d o v : List ℕ) (ts us : List Tried) → state_at d o v result us ≡ past (state_at d o v self ts) us }
+        ensures count { result.used ≡ used }
+    {
+        Progress {
+            code: self.code + 1,
+            used,
+            ..self
         }
     }
-    passed(p, p.used + 1)
+
+    // Past the current entry, by which position w was reached at this distance.
+    fn lowered(self, w: usize, last: bool, distance: u32) -> Progress
+        requires reached { 1 ≤ distance }
+        requires entry { self.code < 18 }
+        requires few { self.used < 583201 }
+        ensures state { (g : Graph) → g.codes ≡ 18 → g.final w ≡ last → (d o v : List ℕ) (ts us : List Tried)
+            → state_at (set d w distance) o (set v w (18 * self.current + self.code)) result us ≡ past (lowered g (state_at d o v self ts) w distance) us }
+        ensures count { result.used ≡ self.used + 1 }
+    {
+        let next = self.passed(self.used + 1);
+        if last && distance <= self.limit {
+            Progress {
+                limit: distance - 1,
+                goal: w,
+                ..next
+            }
+        } else {
+            next
+        }
+    }
 }
 
 // Position w is reached at this distance.
@@ -70,9 +77,11 @@ fn reach(
     predecessors: &mut [u32],
     lowest: &mut [u32],
 )
-    requires { (w < 32400) × (length distances.old ≡ 32400) × (length predecessors.old ≡ 32400) × (length lowest.old ≡ 900) }
-    ensures { (distances.new ≡ set distances.old w distance) × (predecessors.new ≡ set predecessors.old w way)
-        × (lowest.new ≡ set lowest.old (w / 36) (nearer (at lowest.old (w / 36)) distance)) }
+    requires position { w < 32400 }
+    requires sized { (length distances.old ≡ 32400) × (length predecessors.old ≡ 32400) × (length lowest.old ≡ 900) }
+    ensures distance { distances.new ≡ set distances.old w distance }
+    ensures way { predecessors.new ≡ set predecessors.old w way }
+    ensures group { lowest.new ≡ set lowest.old (w / 36) (nearer (at lowest.old (w / 36)) distance) }
 {
     distances[w] = distance;
     predecessors[w] = way;
@@ -83,10 +92,7 @@ fn reach(
 fn falls(old: u32, distance: u32) -> bool
     ensures { result ≡ (eqb old 0 || ltb distance old) }
 {
-    if old == 0 {
-        return true;
-    }
-    distance < old
+    old == 0 || distance < old
 }
 
 // The current entry, which leads to w at this price, is tried.
@@ -99,22 +105,25 @@ pub fn try_entry(
     predecessors: &mut [u32],
     lowest: &mut [u32],
 ) -> Progress
-    requires { (length distances.old ≡ 32400) × (length predecessors.old ≡ 32400) × (length lowest.old ≡ 900) × (p.current < 32400) × (p.code < 18) × (p.used < 583201)
-        × (1 ≤ at distances.old p.current) × (at distances.old p.current ≤ 60001) × (w < 32400) × (price ≤ 32) }
-    ensures { ((g : Graph) → g.codes ≡ 18 → w ≡ g.next p.current p.code → price ≡ g.price p.current p.code → g.final w ≡ last → (o : List ℕ) (ts us : List Tried)
-        → state_at distances.new o predecessors.new result us ≡ past (relaxed g (state_at distances.old o predecessors.old p ts)) us) × (result.used ≡ p.used + 1)
-        × ((o : List ℕ) → (Falls distances.old w (at distances.old p.current + price) → at o w ≡ 0) → lowest.old ≡ lowest_of distances.old o
-        → lowest.new ≡ lowest_of distances.new o) }
+    requires sized { (length distances.old ≡ 32400) × (length predecessors.old ≡ 32400) × (length lowest.old ≡ 900) }
+    requires entry { (p.current < 32400) × (p.code < 18) }
+    requires few { p.used < 583201 }
+    requires reached { (1 ≤ at distances.old p.current) × (at distances.old p.current ≤ 60001) }
+    requires next { w < 32400 }
+    requires cheap { price ≤ 32 }
+    ensures state { (g : Graph) → g.codes ≡ 18 → w ≡ g.next p.current p.code → price ≡ g.price p.current p.code → g.final w ≡ last → (o : List ℕ) (ts us : List Tried)
+        → state_at distances.new o predecessors.new result us ≡ past (relaxed g (state_at distances.old o predecessors.old p ts)) us }
+    ensures count { result.used ≡ p.used + 1 }
+    ensures table { (o : List ℕ) → (Falls distances.old w (at distances.old p.current + price) → at o w ≡ 0) → lowest.old ≡ lowest_of distances.old o
+        → lowest.new ≡ lowest_of distances.new o }
 {
-    let u = p.current;
-    let distance = distances[u] + price;
-    let old = distances[w];
-    if !falls(old, distance) {
-        return passed(p, p.used + 1);
+    let distance = distances[p.current] + price;
+    if !falls(distances[w], distance) {
+        return p.passed(p.used + 1);
     }
-    let way = 18 * u + p.code;
+    let way = ENTRY_COUNT * p.current + p.code;
     reach(w, way as u32, distance, distances, predecessors, lowest);
-    lowered(p, w, last, distance)
+    p.lowered(w, last, distance)
 }
 
 // The current position is settled, and the search goes on from the cheapest open one.
@@ -124,23 +133,24 @@ pub fn settle_current(
     order: &mut [u32],
     lowest: &mut [u32],
 ) -> Progress
-    requires { (length distances.now ≡ 32400) × (length order.old ≡ 32400) × (length lowest.old ≡ 900) × (p.current < 32400) × (p.settled < 32400)
-        × (lowest.old ≡ lowest_of distances.now order.old) }
-    ensures { ((s : Setup) (asks v : List ℕ) (ts : List Tried) → state_at distances.now order.new v result ts
-        ≡ onward (board s asks) (closed (state_at distances.now order.old v p ts))) × (result.used ≡ p.used)
-        × (lowest.new ≡ lowest_of distances.now order.new) }
+    requires sized { (length distances.now ≡ 32400) × (length order.old ≡ 32400) × (length lowest.old ≡ 900) }
+    requires position { p.current < 32400 }
+    requires few { p.settled < 32400 }
+    requires table { lowest.old ≡ lowest_of distances.now order.old }
+    ensures state { (s : Setup) (asks v : List ℕ) (ts : List Tried) → state_at distances.now order.new v result ts
+        ≡ onward (board s asks) (closed (state_at distances.now order.old v p ts)) }
+    ensures count { result.used ≡ p.used }
+    ensures table { lowest.new ≡ lowest_of distances.now order.new }
 {
-    let u = p.current;
-    let n = p.settled + 1;
-    order[u] = n;
-    best_lowest::rescan_group(lowest, distances, order, u);
-    let next = best_lowest::upcoming_from(u / 1296, p.limit, distances, order, lowest);
+    let settled = p.settled + 1;
+    order[p.current] = settled;
+    best_lowest::rescan_group(lowest, distances, order, p.current);
+    let layer = p.current / LAYER_SIZE;
+    let next = best_lowest::upcoming_from(layer, p.limit, distances, order, lowest);
     Progress {
-        current: next,
+        current: next.unwrap_or(POSITION_COUNT),
         code: 0,
-        settled: n,
-        limit: p.limit,
-        goal: p.goal,
-        used: p.used,
+        settled,
+        ..p
     }
 }

@@ -10,20 +10,20 @@ use Rattle.best_tries.specs.Progress.{state_at}
 use Rattle.best_finder.proofs.Moves.{moved_by, tick-settle, tick-try, tick-skip, onward-tries, past-tries, open-there}
 use Rattle.best_finder.proofs.advance.Goals as goal
 
-pub returns-then-k-ge18 : goal.returns-then-k-ge18
-returns-then-k-ge18 c =
+pub returns-then-p-ge-ENTRY_COUNT : goal.returns-then-p-ge-ENTRY_COUNT
+returns-then-p-ge-ENTRY_COUNT c =
     let a = c.args in
     let z = c.requires in
     let g = board a.setup a.asks.now in
     let d = a.distances.now in
     let o = a.order.now in
     let v = a.predecessors.now in
-    let k = c.settle_current in (
-      λ ts l. let t = state_at d o v a.p ts in
-          moved_by g t (onward g (closed t)) d k.new.order v k.result (tick-settle a.setup a.asks.now t c.if-k-ge18.true)
-          (ap (λ us. state_at d k.new.order v k.result us) (onward-tries g t) ∙ k.ensures.0 a.setup a.asks.now v ts) (ap length (onward-tries g t) ∙ l ∙ sym k.ensures.1),
-      k.ensures.2,
-    )
+    let k = c.settle_current in record {
+      moved = λ ts l. let t = state_at d o v a.p ts in
+          moved_by g t (onward g (closed t)) d k.new.order v k.result (tick-settle a.setup a.asks.now t c.if-p-ge-ENTRY_COUNT.true)
+          (ap (λ us. state_at d k.new.order v k.result us) (onward-tries g t) ∙ k.ensures.state a.setup a.asks.now v ts) (ap length (onward-tries g t) ∙ l ∙ sym k.ensures.count);
+      table = k.ensures.table;
+    }
 
 pub returns-then-not-legal_at : goal.returns-then-not-legal_at
 returns-then-not-legal_at c =
@@ -33,29 +33,25 @@ returns-then-not-legal_at c =
     let d = a.distances.now in
     let o = a.order.now in
     let v = a.predecessors.now in
-    let k = c.passed in (
-      λ ts l. let t = state_at d o v a.p ts in
-          moved_by g t (past t ts) d o v k.result (tick-skip a.setup a.asks.now t c.if-k-ge18.false (sym c.legal_at.ensures ∙ c.if-not-legal_at.true))
-          (ap (λ us. state_at d o v k.result us) (past-tries t ts) ∙ k.ensures.0 d o v ts ts) (ap length (past-tries t ts) ∙ l ∙ sym k.ensures.1),
-      z.12,
-    )
+    let k = c.passed in record {
+      moved = λ ts l. let t = state_at d o v a.p ts in
+          moved_by g t (past t ts) d o v k.result (tick-skip a.setup a.asks.now t c.if-p-ge-ENTRY_COUNT.false (sym c.legal_at.ensures ∙ c.if-not-legal_at.true))
+          (ap (λ us. state_at d o v k.result us) (past-tries t ts) ∙ k.ensures.state d o v ts ts) (ap length (past-tries t ts) ∙ l ∙ sym k.ensures.count);
+      table = z.table;
+    }
 
 pub try_entry-requires : goal.try_entry-requires
 try_entry-requires c =
     let a = c.args in
     let z = c.requires in
-    let legal = sym c.legal_at.ensures ∙ c.if-not-legal_at.false in (
-      z.2,
-      z.4,
-      z.5,
-      z.6,
-      c.if-k-ge18.false,
-      z.8,
-      z.9,
-      z.10,
-      omega (arith, c.next_at-w.ensures, next-lt a.setup a.asks.now a.p.current a.p.code z.1 z.6 legal),
-      c.price_at-price.ensures.1,
-    )
+    let legal = sym c.legal_at.ensures ∙ c.if-not-legal_at.false in record {
+      sized = (z.sized.0, z.sized.2, z.sized.3);
+      entry = (z.few.0, c.if-p-ge-ENTRY_COUNT.false);
+      few = z.few.2;
+      reached = z.reached;
+      next = omega (arith, c.next_at-next.ensures, next-lt a.setup a.asks.now a.p.current a.p.code z.fits.1 z.few.0 legal);
+      cheap = c.price_at-price.ensures.1;
+    }
 
 pub returns : goal.returns
 unfolding board served_of
@@ -67,12 +63,12 @@ returns c =
     let o = a.order.now in
     let v = a.predecessors.now in
     let k = c.try_entry in
-    let legal = sym c.legal_at.ensures ∙ c.if-not-legal_at.false in (
-      λ ts l. let t = state_at d o v a.p ts in
+    let legal = sym c.legal_at.ensures ∙ c.if-not-legal_at.false in record {
+      moved = λ ts l. let t = state_at d o v a.p ts in
           let us : List Tried = record { position = a.p.current; code = a.p.code } ∷ ts in
-          moved_by g t (past (relaxed g t) us) k.new.distances o k.new.predecessors k.result (tick-try a.setup a.asks.now t c.if-k-ge18.false legal)
+          moved_by g t (past (relaxed g t) us) k.new.distances o k.new.predecessors k.result (tick-try a.setup a.asks.now t c.if-p-ge-ENTRY_COUNT.false legal)
           (ap (λ xs. state_at k.new.distances o k.new.predecessors k.result xs) (past-tries (relaxed g t) us)
-          ∙ k.ensures.0 g refl c.next_at-w.ensures c.price_at-price.ensures.0 refl o ts us) (ap length (past-tries (relaxed g t) us) ∙ omega (arith, l, k.ensures.1)),
-      k.ensures.2 o
-          (open-there g d o a.p.current a.p.code c.next_at-w.result c.price_at-price.result c.next_at-w.ensures c.price_at-price.ensures.0 legal z.11) z.12,
-    )
+          ∙ k.ensures.state g refl c.next_at-next.ensures c.price_at-price.ensures.0 refl o ts us) (ap length (past-tries (relaxed g t) us) ∙ omega (arith, l, k.ensures.count));
+      table = k.ensures.table o
+          (open-there g d o a.p.current a.p.code c.next_at-next.result c.price_at-price.result c.next_at-next.ensures c.price_at-price.ensures.0 legal z.next) z.table;
+    }

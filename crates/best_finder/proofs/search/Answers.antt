@@ -13,7 +13,13 @@ unfolding initial board size
 search_from_start-requires c =
     let a = c.args in
     let z = c.requires in
-    let d = c.begin.ensures ∙ ap (λ n. set (zeros n) 0 1) z.4 in
-    let o = c.clear.ensures ∙ ap zeros z.5 in
-    let e = c.begin-2.ensures ∙ lowest_start 32400 (length a.lowest.now) refl z.7 ∙ (λ i. lowest_of (sym d i) (sym o i)) in
-    (z.0, z.1, z.2, z.3, d, o, c.clear-2.ensures ∙ ap zeros z.6, ap length e ∙ groups-length 900 _ _, e)
+    let d = c.begin.ensures ∙ ap (λ n. set (zeros n) 0 1) z.sized.0 in
+    let o = c.fill.ensures.after (λ y e. e) ∙ ap zeros z.sized.1 in
+    let e = c.begin-2.ensures ∙ lowest_start 32400 (length a.lowest.now) refl z.sized.3 ∙ (λ i. lowest_of (sym d i) (sym o i)) in record {
+      fits = z.fits;
+      own_cost = z.own_cost;
+      distances = d;
+      order = o;
+      predecessors = c.fill-2.ensures.after (λ y e. e) ∙ ap zeros z.sized.2;
+      lowest = (ap length e ∙ groups-length 900 _ _, e);
+    }

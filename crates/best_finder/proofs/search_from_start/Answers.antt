@@ -10,67 +10,60 @@ pub loop-setup-init : goal.loop-setup-init
 loop-setup-init c =
     let a = c.args in
     let z = c.requires in
-    (going_start a.setup a.asks.now a.steps a.own (record { few = z.1; none = z.3 }) a.distances.now a.order.now a.predecessors.now z.4 z.5 z.6, z.8)
+    record { going = going_start a.setup a.asks.now a.steps a.own (record { few = z.fits.1; none = z.own_cost.1 }) a.distances.now a.order.now a.predecessors.now z.distances z.order z.predecessors; table = z.lowest.1 }
 
 pub halted-requires : goal.halted-requires
 halted-requires c =
-    c.requires.0
+    c.requires.fits.0
 
 pub advance-p-requires : goal.advance-p-requires
 advance-p-requires c =
     let a = c.args in
     let z = c.requires in
     let q = c.loop-setup in
-    let w = q.invariant.0 in
-    let e = sym (c.halted.ensures q.distances q.order q.predecessors w.tries w.count) ∙ c.if-halted.false in
+    let w = q.invariant.going in
+    let e = sym (c.halted.ensures q.distances q.order q.predecessors w.tries w.count) ∙ c.loop-setup-test.true in
     let y = going-ready a.setup a.asks.now a.steps a.own q.distances q.order q.predecessors q.p w e in
-    let l = lengths a.setup a.asks.now a.steps a.own q.distances q.order q.predecessors q.p w in (
-      z.0,
-      z.1,
-      l.0,
-      l.1,
-      l.2,
-      ap length q.invariant.1 ∙ groups-length 900 q.distances q.order,
-      y.current,
-      y.settled,
-      y.used,
-      y.some,
-      omega (arith, y.near, z.2),
-      y.next,
-      q.invariant.1,
-    )
+    let l = lengths a.setup a.asks.now a.steps a.own q.distances q.order q.predecessors q.p w in record {
+      fits = z.fits;
+      sized = (l.0, l.1, l.2, ap length q.invariant.table ∙ groups-length 900 q.distances q.order);
+      few = (y.current, y.settled, y.used);
+      reached = (y.some, omega (arith, y.near, z.own_cost.0));
+      next = y.next;
+      table = q.invariant.table;
+    }
 
 pub loop-setup-smaller : goal.loop-setup-smaller
 loop-setup-smaller c =
     let a = c.args in
     let z = c.requires in
     let q = c.loop-setup in
-    let w = q.invariant.0 in
-    let e = sym (c.halted.ensures q.distances q.order q.predecessors w.tries w.count) ∙ c.if-halted.false in
+    let w = q.invariant.going in
+    let e = sym (c.halted.ensures q.distances q.order q.predecessors w.tries w.count) ∙ c.loop-setup-test.true in
     let v = c.advance-p in
     going-falls a.setup a.asks.now a.steps a.own q.distances q.order q.predecessors q.p w e
-    v.new.distances v.new.order v.new.predecessors v.result (v.ensures.0 w.tries w.count)
+    v.new.distances v.new.order v.new.predecessors v.result (v.ensures.moved w.tries w.count)
 
 pub loop-setup-preserved : goal.loop-setup-preserved
 loop-setup-preserved c =
     let a = c.args in
     let z = c.requires in
     let q = c.loop-setup in
-    let w = q.invariant.0 in
-    let e = sym (c.halted.ensures q.distances q.order q.predecessors w.tries w.count) ∙ c.if-halted.false in
-    let v = c.advance-p in (
-      going_on_lem a.setup a.asks.now a.steps a.own q.distances q.order q.predecessors q.p w e
-          v.new.distances v.new.order v.new.predecessors v.result (v.ensures.0 w.tries w.count),
-      v.ensures.1,
-    )
+    let w = q.invariant.going in
+    let e = sym (c.halted.ensures q.distances q.order q.predecessors w.tries w.count) ∙ c.loop-setup-test.true in
+    let v = c.advance-p in record {
+      going = going_on_lem a.setup a.asks.now a.steps a.own q.distances q.order q.predecessors q.p w e
+          v.new.distances v.new.order v.new.predecessors v.result (v.ensures.moved w.tries w.count);
+      table = v.ensures.table;
+    }
 
 pub shape_of-distances : goal.shape_of-distances
 shape_of-distances c =
     let a = c.args in
     let z = c.requires in
     let q = c.loop-setup in
-    let w = q.invariant.0 in
-    (same-lengths a.setup a.asks.now a.steps a.own (record { few = z.1; none = z.3 }) a.distances.now a.order.now a.predecessors.now z.4 z.5 z.6
+    let w = q.invariant.going in
+    (same-lengths a.setup a.asks.now a.steps a.own (record { few = z.fits.1; none = z.own_cost.1 }) a.distances.now a.order.now a.predecessors.now z.distances z.order z.predecessors
     q.distances q.order q.predecessors q.p w).0
 
 pub shape_of-order : goal.shape_of-order
@@ -78,8 +71,8 @@ shape_of-order c =
     let a = c.args in
     let z = c.requires in
     let q = c.loop-setup in
-    let w = q.invariant.0 in
-    (same-lengths a.setup a.asks.now a.steps a.own (record { few = z.1; none = z.3 }) a.distances.now a.order.now a.predecessors.now z.4 z.5 z.6
+    let w = q.invariant.going in
+    (same-lengths a.setup a.asks.now a.steps a.own (record { few = z.fits.1; none = z.own_cost.1 }) a.distances.now a.order.now a.predecessors.now z.distances z.order z.predecessors
     q.distances q.order q.predecessors q.p w).1
 
 pub shape_of-predecessors : goal.shape_of-predecessors
@@ -87,22 +80,22 @@ shape_of-predecessors c =
     let a = c.args in
     let z = c.requires in
     let q = c.loop-setup in
-    let w = q.invariant.0 in
-    (same-lengths a.setup a.asks.now a.steps a.own (record { few = z.1; none = z.3 }) a.distances.now a.order.now a.predecessors.now z.4 z.5 z.6
+    let w = q.invariant.going in
+    (same-lengths a.setup a.asks.now a.steps a.own (record { few = z.fits.1; none = z.own_cost.1 }) a.distances.now a.order.now a.predecessors.now z.distances z.order z.predecessors
     q.distances q.order q.predecessors q.p w).2
 
 pub shape_of-lowest : goal.shape_of-lowest
 shape_of-lowest c =
     let z = c.requires in
     let q = c.loop-setup in
-    ap length q.invariant.1 ∙ groups-length 900 q.distances q.order ∙ sym z.7
+    ap length q.invariant.table ∙ groups-length 900 q.distances q.order ∙ sym z.lowest.0
 
 pub returns : goal.returns
 returns c =
     let a = c.args in
     let z = c.requires in
     let q = c.loop-setup in
-    let w = q.invariant.0 in
-    let e = sym (c.halted.ensures q.distances q.order q.predecessors w.tries w.count) ∙ c.if-halted.true in
+    let w = q.invariant.going in
+    let e = sym (c.halted.ensures q.distances q.order q.predecessors w.tries w.count) ∙ c.loop-setup-test.false in
     let f = going_end a.setup a.asks.now a.steps a.own q.distances q.order q.predecessors q.p w e in
-    (f.0, f.1, q.invariant.1)
+    record { state = f.0; count = f.1; table = q.invariant.table }

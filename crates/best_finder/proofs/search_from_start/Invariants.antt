@@ -8,8 +8,10 @@ use Rattle.best_finder.proofs.Going.{Going}
 use Rattle.best_finder.proofs.search_from_start.Given as goal
 
 abbrev pub invariant-loop-setup : goal.invariant-loop-setup
-invariant-loop-setup l =
-    Going l.setup l.asks l.steps l.own l.distances l.order l.predecessors l.p × (l.lowest ≡ lowest_of l.distances l.order)
+invariant-loop-setup l = record {
+  going : Going l.setup l.asks l.steps l.own l.distances l.order l.predecessors l.p;
+  table : l.lowest ≡ lowest_of l.distances l.order;
+}
 
 abbrev pub decreases-loop-setup : goal.decreases-loop-setup
 decreases-loop-setup l =

@@ -11,16 +11,12 @@ pub search-p-requires : goal.search-p-requires
 search-p-requires c =
     let w = c.own_actions-own.ensures in
     let n = own_numbers c.args.setup c.args.asks.now in
-    let e = ap length w.numbers ∙ length-append n (drop (length n) c.args.distances.now) in (
-      c.requires.fits.0,
-      c.requires.fits.2,
-      w.small,
-      λ h. w.cost ∙ own-none c.args.setup c.args.asks.now h,
-      omega (arith, e, length-drop (length n) c.args.distances.now, w.count, w.short, c.requires.tables_fit.distances),
-      c.requires.tables_fit.order,
-      c.requires.tables_fit.predecessors,
-      c.requires.tables_fit.lowest,
-    )
+    let e = ap length w.numbers ∙ length-append n (drop (length n) c.args.distances.now) in
+    let z = c.requires.tables_fit in record {
+      fits = (c.requires.fits.0, c.requires.fits.2);
+      own_cost = (w.small, λ h. w.cost ∙ own-none c.args.setup c.args.asks.now h);
+      sized = (omega (arith, e, length-drop (length n) c.args.distances.now, w.count, w.short, z.distances), z.order, z.predecessors, z.lowest);
+    }
 
 pub write_schedule-count-requires : goal.write_schedule-count-requires
 write_schedule-count-requires c =
@@ -31,7 +27,7 @@ write_schedule-count-requires c =
     let steps = c.args.steps in
     let own = c.own_actions-own.result.cost in
     let few = c.requires.fits.2 in
-    let e = c.search-p.ensures.0 in
+    let e = c.search-p.ensures.state in
     let no = none s asks steps own few w.cost l.distances l.order l.predecessors c.search-p.result e in
     let n = own_numbers s asks in
     let long = ap length w.numbers ∙ length-append n (drop (length n) c.args.distances.now) in record {
@@ -58,12 +54,12 @@ returns c =
     let steps = c.args.steps in
     let own = c.own_actions-own.result.cost in
     let few = c.requires.fits.2 in
-    let e = c.search-p.ensures.0 in
+    let e = c.search-p.ensures.state in
     let z = c.write_schedule-count.ensures in record {
       value =
           answer-is s asks steps own few w.cost l.distances l.order l.predecessors c.search-p.result e c.write_schedule-count.result c.search-p.result.used
-          c.excess.result _ z.0 c.search-p.ensures.1 refl c.excess.ensures;
+          c.excess.result _ z.0 c.search-p.ensures.count refl c.excess.ensures;
       tables =
           tables-are s asks steps own few w.cost l.distances l.order l.predecessors c.search-p.result e c.write_schedule-count.result
-          c.write_schedule-count.new.numbers l.lowest z.0 z.1 c.search-p.ensures.2;
+          c.write_schedule-count.new.numbers l.lowest z.0 z.1 c.search-p.ensures.table;
     }

@@ -11,20 +11,22 @@ pub upcoming_from-next-requires : goal.upcoming_from-next-requires
 upcoming_from-next-requires c =
     let a = c.args in
     let z = c.requires in
-    let e = settled-table a.distances.now a.order.now a.lowest.now _ a.p.current (a.p.settled + 1) z.3 z.5 c.rescan_group.ensures in (
-      z.0,
-      length-set a.order.now a.p.current (a.p.settled + 1) ∙ z.1,
-      ap length e ∙ groups-length 900 a.distances.now (set a.order.now a.p.current (a.p.settled + 1)),
-      omega arith,
-      e,
-    )
+    let e = settled-table a.distances.now a.order.now a.lowest.now _ a.p.current (a.p.settled + 1) z.position z.table c.rescan_group.ensures in record {
+      sized = (
+        z.sized.0,
+        length-set a.order.now a.p.current (a.p.settled + 1) ∙ z.sized.1,
+        ap length e ∙ groups-length 900 a.distances.now (set a.order.now a.p.current (a.p.settled + 1)),
+      );
+      layer = omega arith;
+      table = e;
+    }
 
 pub returns : goal.returns
 returns c =
     let a = c.args in
     let z = c.requires in
-    let q = c.upcoming_from-next in (
-      λ s asks v ts. settle-next s asks a.distances.now a.order.now v a.p q.result a.p.used ts q.ensures,
-      refl,
-      settled-table a.distances.now a.order.now a.lowest.now _ a.p.current (a.p.settled + 1) z.3 z.5 c.rescan_group.ensures,
-    )
+    let q = c.unwrap_or in record {
+      state = λ s asks v ts. settle-next s asks a.distances.now a.order.now v a.p q.result a.p.used ts (q.ensures ∙ c.upcoming_from-next.ensures.choice);
+      count = refl;
+      table = settled-table a.distances.now a.order.now a.lowest.now _ a.p.current (a.p.settled + 1) z.position z.table c.rescan_group.ensures;
+    }
