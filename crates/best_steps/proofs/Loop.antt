@@ -30,8 +30,7 @@ use Rattle.protocol_types.specs.declared.Request.{Request}
 use Rattle.protocol_types.specs.declared.Entry.{Entry}
 use Rattle.protocol_types.specs.declared.Entry.TheVariants.{Complete}
 use Rattle.protocol_types.specs.declared.BestSchedule.{BestSchedule}
-use Rattle.best_steps.specs.Steps.{BestStage, best_stage, stopped, asking_at, storing_at, search_done, begun, asks_with, took, turned, Asking}
-use Rattle.best_steps.specs.declared.BestProgress.{BestProgress}
+use Rattle.best_steps.specs.Steps.{BestProgress, BestStage, best_stage, stopped, asking_at, storing_at, search_done, begun, asks_with, took, turned, Asking}
 use Rattle.best_steps.proofs.Checks.{checked, tables-sized}
 
 -- ---- requests and their numbers

@@ -1,7 +1,7 @@
 -- The search for the best schedule between two requests, and between two entries of its schedule.
 use Rattle.std.specs.Prelude.{ℕ, ◌+◌, ◌<◌, ◌≤◌, ◌≡◌, Bool, true, false, ◌&&◌, cond, List, [], length, take, set, ltb, eqb}
 use Rattle.protocol_types.specs.Lists.{at, zeros}
-use Rattle.protocol_types.specs.Refusals.{no_refusal}
+use Rattle.protocol_types.specs.Refusals.{no_refusal, not_searchable}
 use Rattle.protocol_types.specs.Board.{Fits}
 use Rattle.protocol_types.specs.Conditions.{request_refusal}
 use Rattle.best_positions.specs.Position.{asked}
@@ -11,10 +11,11 @@ use Rattle.best_schedule.specs.Found.{best_found, tables_after}
 use Rattle.best_schedule.specs.Lent.{TablesFit}
 use Rattle.protocol_types.specs.declared.Setup.{Setup}
 use Rattle.protocol_types.specs.declared.Request.{Request}
+use Rattle.protocol_types.specs.declared.Entry.{Entry}
 use Rattle.protocol_types.specs.declared.Entry.TheVariants.{Complete}
 use Rattle.protocol_types.specs.declared.BestSchedule.{BestSchedule}
-use Rattle.protocol_types.specs.SearchAnswers.{Found, Refused}
-use Rattle.best_steps.specs.declared.BestProgress.{BestProgress}
+use Rattle.protocol_types.specs.SearchAnswers.{BestAnswer, Found, Refused, search_answer}
+use Rattle.best_steps.specs.declared.BestProgress.{BestProgress as CodeProgress}
 
 -- 2, by the lengths of the four tables and of the list
 abbrev pub lengths_fit : ℕ → ℕ → ℕ → ℕ → ℕ → Bool
@@ -22,12 +23,38 @@ lengths_fit d o p l n = eqb d position_count && eqb o position_count && eqb p po
 
 -- ---- how far it has come, and the search tables
 
+-- the search between two steps, its answer in the documents' numbers
+pub record BestProgress : Type 0 where
+  pub going : Bool
+  pub asking : Bool
+  pub at : ℕ
+  pub count : ℕ
+  pub entry : Entry
+  pub asks : List ℕ
+  pub steps : ℕ
+  pub answer : BestAnswer
+
+abbrev pub progress_of : CodeProgress → BestProgress
+progress_of p = record {
+  going = p.going;
+  asking = p.asking;
+  at = p.at;
+  count = p.count;
+  entry = p.entry;
+  asks = p.asks;
+  steps = p.steps;
+  answer = search_answer p.answer;
+}
+
 pub record BestStage : Type 0 where
   pub progress : BestProgress
   pub tables : SearchTables
 
 abbrev pub best_stage : BestProgress → SearchTables → BestStage
 best_stage p x = record { progress = p; tables = x }
+
+abbrev pub stage_of : CodeProgress → SearchTables → BestStage
+stage_of p x = best_stage (progress_of p) x
 
 -- refused by n at place k
 abbrev pub stopped : ℕ → ℕ → BestProgress
@@ -52,7 +79,7 @@ asking_at k n asks m = record {
   entry = Complete;
   asks = asks;
   steps = m;
-  answer = Refused no_refusal 0;
+  answer = Refused not_searchable 0;
 }
 
 -- entry k of the schedule b, whose entries the table has as numbers, is to be stored

@@ -8,10 +8,13 @@ ghost use Rattle.protocol_types.specs.Conditions.{Named};
 ghost use Rattle.best_positions.specs.Position.{asked_by};
 ghost use Rattle.best_positions.specs.Position.{entry_from};
 ghost use Rattle.best_positions.specs.Best.{searchable, search_refusal};
+ghost use Rattle.protocol_types.specs.Refusals.{number, refusal_number};
 ghost use Rattle.best_schedule.specs.Lent.{search_lent, TablesFit};
-ghost use Rattle.best_steps.specs.Steps.{lengths_fit, best_stage, stopped, asking_at, storing_at, search_done, begun, took, turned, Asking};
+ghost use Rattle.best_steps.specs.Steps.{lengths_fit, progress_of, stage_of, stopped, asking_at, storing_at, search_done, begun, took, turned, Asking};
 
-use protocol_types::{BestAnswer, BestSchedule, Entry, Operation, Request, Setup, Variable};
+use protocol_types::{
+    BestSchedule, Entry, Operation, PlacedRefusal, Refusal, Request, Setup, Variable,
+};
 
 // The positions of the search, each of which has an entry in the list.
 const POSITION_COUNT: usize = 32400;
@@ -33,7 +36,7 @@ pub struct BestProgress {
     pub entry: Entry,
     pub asks: [u32; 24],
     pub steps: u32,
-    pub answer: BestAnswer,
+    pub answer: Result<BestSchedule, PlacedRefusal>,
 }
 
 // ---- what is checked before the first request
@@ -76,28 +79,25 @@ fn lengths_fit(
     entries == POSITION_COUNT
 }
 
-// The refusal number before the first of `count` requests, or 0: 1, 10, 12, 2 in this order.
-fn search_refusal(setup: Setup, count: usize, fits: bool) -> u32
-    ensures { result ≡ search_refusal setup count fits }
+// Whether a search of `count` requests is refused before the first: 1, 10, 12, 2 in this order.
+fn check_search(setup: Setup, count: usize, fits: bool) -> Result<(), Refusal>
+    ensures { refusal_number result ≡ search_refusal setup count fits }
 {
-    let refusal = setup.refusal();
-    if refusal != protocol_types::NO_REFUSAL {
-        return refusal;
-    }
+    setup.check()?;
     if !is_searchable(setup, count) {
-        return protocol_types::NOT_SEARCHABLE;
+        return Err(Refusal::NotSearchable);
     }
     if !fits {
-        return protocol_types::WRONG_LENGTH;
+        return Err(Refusal::WrongLength);
     }
-    protocol_types::NO_REFUSAL
+    Ok(())
 }
 
 // ---- how far it has come
 
 // A search that is refused.
-fn stop(refusal: u32, place: usize) -> BestProgress
-    ensures { result ≡ stopped refusal place }
+fn stop(refusal: Refusal, place: usize) -> BestProgress
+    ensures { progress_of result ≡ stopped (number refusal) place }
 {
     BestProgress {
         going: false,
@@ -107,13 +107,13 @@ fn stop(refusal: u32, place: usize) -> BestProgress
         entry: Entry::Complete,
         asks: [0; 24],
         steps: 0,
-        answer: BestAnswer::Refused(refusal, place),
+        answer: Err(PlacedRefusal { refusal, place }),
     }
 }
 
 // A search that waits for the request at a place.
 fn ask(place: usize, count: usize, asks: [u32; 24], steps: u32) -> BestProgress
-    ensures { result ≡ asking_at place count asks steps }
+    ensures { progress_of result ≡ asking_at place count asks steps }
 {
     BestProgress {
         going: true,
@@ -123,7 +123,10 @@ fn ask(place: usize, count: usize, asks: [u32; 24], steps: u32) -> BestProgress
         entry: Entry::Complete,
         asks: asks,
         steps: steps,
-        answer: BestAnswer::Refused(protocol_types::NO_REFUSAL, 0),
+        answer: Err(PlacedRefusal {
+            refusal: Refusal::NotSearchable,
+            place: 0,
+        }),
     }
 }
 
@@ -139,7 +142,7 @@ fn number_at(numbers: &[u32], k: usize) -> u32
 
 // A search whose schedule is to be stored, from its entry k on.
 fn store(k: usize, best: BestSchedule, numbers: &[u32]) -> BestProgress
-    ensures { result ≡ storing_at k best numbers.now }
+    ensures { progress_of result ≡ storing_at k best numbers.now }
 {
     let number = number_at(numbers, k);
     BestProgress {
@@ -150,7 +153,7 @@ fn store(k: usize, best: BestSchedule, numbers: &[u32]) -> BestProgress
         entry: best_moves::entry_from(number),
         asks: [0; 24],
         steps: 0,
-        answer: BestAnswer::Found(best),
+        answer: Ok(best),
     }
 }
 
@@ -169,7 +172,7 @@ fn search<'a>(
 ) -> BestProgress
     requires fits { Fits setup × (setup.blocks ≤ 4) × (count ≤ 24) }
     requires tables_fit { TablesFit (search_lent distances.old order.old predecessors.old lowest.old) }
-    ensures { best_stage result (search_lent distances.new order.new predecessors.new lowest.new) ≡ search_done setup (take count asks) steps }
+    ensures { stage_of result (search_lent distances.new order.new predecessors.new lowest.new) ≡ search_done setup (take count asks) steps }
 {
     let best = best_schedule::find(
         setup,
@@ -194,7 +197,7 @@ pub fn begin<'a>(
     entries: usize,
     steps: u32,
 ) -> BestProgress
-    ensures { best_stage result (search_lent distances.new order.new predecessors.new lowest.new)
+    ensures { stage_of result (search_lent distances.new order.new predecessors.new lowest.new)
         ≡ begun setup (search_lent distances.old order.old predecessors.old lowest.old) count entries steps }
 {
     let fits = lengths_fit(
@@ -204,8 +207,7 @@ pub fn begin<'a>(
         lowest.len(),
         entries,
     );
-    let refusal = search_refusal(setup, count, fits);
-    if refusal != protocol_types::NO_REFUSAL {
+    if let Err(refusal) = check_search(setup, count, fits) {
         return stop(refusal, 0);
     }
     if count == 0 {
@@ -254,12 +256,11 @@ pub fn take<'a>(
     p: BestProgress,
     request: Request,
 ) -> BestProgress
-    requires { Asking setup (best_stage p (search_lent distances.old order.old predecessors.old lowest.old)) }
-    ensures { best_stage result (search_lent distances.new order.new predecessors.new lowest.new)
-        ≡ took setup (best_stage p (search_lent distances.old order.old predecessors.old lowest.old)) request }
+    requires { Asking setup (stage_of p (search_lent distances.old order.old predecessors.old lowest.old)) }
+    ensures { stage_of result (search_lent distances.new order.new predecessors.new lowest.new)
+        ≡ took setup (stage_of p (search_lent distances.old order.old predecessors.old lowest.old)) request }
 {
-    let refusal = setup.request_refusal(0, request);
-    if refusal != protocol_types::NO_REFUSAL {
+    if let Err(refusal) = setup.check_request(0, request) {
         return stop(refusal, p.at);
     }
     let operation = request.operation;
@@ -285,7 +286,7 @@ pub fn take<'a>(
 // The next entry, once this one is stored.
 pub fn turn(p: BestProgress, numbers: &[u32]) -> BestProgress
     requires { p.at < p.count }
-    ensures { result ≡ turned numbers.now p }
+    ensures { progress_of result ≡ turned numbers.now (progress_of p) }
 {
     let next = p.at + 1;
     let number = number_at(numbers, next);
