@@ -14,8 +14,7 @@ use Rattle.protocol_types.specs.declared.Request.{Request}
 use Rattle.protocol_types.specs.declared.Entry.{Entry}
 use Rattle.protocol_types.specs.declared.Entry.TheVariants.{Complete}
 use Rattle.protocol_types.proofs.Conditions.{no-request}
-use Rattle.best_steps.specs.Steps.{BestStage, best_stage, begun, took, turned, Asking}
-use Rattle.best_steps.specs.declared.BestProgress.{BestProgress}
+use Rattle.best_steps.specs.Steps.{BestProgress, BestStage, best_stage, begun, took, turned, Asking}
 use Rattle.best_steps.proofs.Loop as any
 
 -- the list with its first k entries from xs

@@ -16,8 +16,7 @@ use Rattle.protocol_types.specs.declared.Entry.TheVariants.{Complete}
 use Rattle.protocol_types.proofs.Laws.{choice}
 use Rattle.protocol_types.proofs.Conditions.{no-request}
 use Rattle.best_positions.specs.Best.{SearchTables, best_refusal, schedule}
-use Rattle.best_steps.specs.Steps.{BestStage, best_stage, begun, took, turned}
-use Rattle.best_steps.specs.declared.BestProgress.{BestProgress}
+use Rattle.best_steps.specs.Steps.{BestProgress, BestStage, best_stage, begun, took, turned}
 use Rattle.best_steps.proofs.Loop as any
 use Rattle.host_decoding.specs.Records.{request_width, request_at, requests_of, entry_width, both_whole}
 use Rattle.host_decoding.proofs.Decoding.{request-count, request-at, entry-count}

@@ -3,14 +3,15 @@
 
 ghost use Rattle.std.specs.Prelude.{◌≡◌, ◌≢◌, cond};
 ghost use Rattle.protocol_types.specs.Refusals.{no_refusal};
+ghost use Rattle.protocol_types.specs.SearchAnswers.{search_answer};
 ghost use Rattle.best_positions.specs.Best.{search_tables};
-ghost use Rattle.best_steps.specs.Steps.{best_stage};
+ghost use Rattle.best_steps.specs.Steps.{stage_of};
 ghost use Rattle.host_best.specs.Numbers.{entries_lent, best_numbers_refusal, best_of_numbers, best_numbers, in_numbers};
 ghost use Rattle.best_schedule.specs.Lent.{search_lent};
 ghost use Rattle.host_best.specs.Turns.{numbers_stage, numbers_turned, Ready};
 
 use best_steps::BestProgress;
-use protocol_types::{BestAnswer, Setup};
+use protocol_types::{BestSchedule, PlacedRefusal, Setup};
 
 // An answer in numbers: the refusal number and its place, or 0 and 0; the schedule's length, its cost, the steps used, 1 where it is called least, and its excess, each 0 with a refusal.
 #[derive(Clone, Copy)]
@@ -45,9 +46,9 @@ fn turn<'a>(
     schedule: &'a mut [u32],
     p: BestProgress,
 ) -> BestProgress
-    requires { Ready setup requests.now (numbers_stage (best_stage p (search_tables distances.old order.old predecessors.old lowest.old)) schedule.old) }
-    ensures { numbers_stage (best_stage result (search_lent distances.new order.new predecessors.new lowest.new)) schedule.new
-        ≡ numbers_turned setup requests.now (numbers_stage (best_stage p (search_lent distances.old order.old predecessors.old lowest.old)) schedule.old) }
+    requires { Ready setup requests.now (numbers_stage (stage_of p (search_tables distances.old order.old predecessors.old lowest.old)) schedule.old) }
+    ensures { numbers_stage (stage_of result (search_lent distances.new order.new predecessors.new lowest.new)) schedule.new
+        ≡ numbers_turned setup requests.now (numbers_stage (stage_of p (search_lent distances.old order.old predecessors.old lowest.old)) schedule.old) }
 {
     if p.asking {
         let request = host_decoding::request_at(requests, p.at);
@@ -68,8 +69,8 @@ pub fn best<'a>(
     lowest: &'a mut [u32],
     schedule: &'a mut [u32],
     steps: u32,
-) -> BestAnswer
-    ensures { (result ≡ best_of_numbers setup (search_lent distances.old order.old predecessors.old lowest.old) requests.now schedule.old steps)
+) -> Result<BestSchedule, PlacedRefusal>
+    ensures { (search_answer result ≡ best_of_numbers setup (search_lent distances.old order.old predecessors.old lowest.old) requests.now schedule.old steps)
         × (schedule.new ≡ best_numbers setup (search_lent distances.old order.old predecessors.old lowest.old) requests.now schedule.old steps)
         × (best_numbers_refusal setup (search_lent distances.old order.old predecessors.old lowest.old) requests.now schedule.old ≢ no_refusal
         → search_lent distances.new order.new predecessors.new lowest.new ≡ search_lent distances.old order.old predecessors.old lowest.old) }
@@ -112,12 +113,12 @@ fn flag_number(flag: bool) -> u32
 }
 
 // The numbers of an answer.
-pub fn in_numbers(answer: BestAnswer) -> BestNumbers
-    ensures { result ≡ in_numbers answer }
+pub fn in_numbers(answer: Result<BestSchedule, PlacedRefusal>) -> BestNumbers
+    ensures { result ≡ in_numbers (search_answer answer) }
 {
     match answer {
-        BestAnswer::Found(best) => BestNumbers {
-            refusal: protocol_types::NO_REFUSAL,
+        Ok(best) => BestNumbers {
+            refusal: 0,
             place: 0,
             length: best.length,
             cost: best.cost,
@@ -125,9 +126,9 @@ pub fn in_numbers(answer: BestAnswer) -> BestNumbers
             least: flag_number(best.least),
             excess: best.excess,
         },
-        BestAnswer::Refused(number, place) => BestNumbers {
-            refusal: number,
-            place: place,
+        Err(PlacedRefusal { refusal, place }) => BestNumbers {
+            refusal: refusal.number(),
+            place,
             length: 0,
             cost: 0,
             steps: 0,

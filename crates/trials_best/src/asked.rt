@@ -6,7 +6,7 @@ use crate::layout::{
 };
 use crate::lent::{ROOM, Table};
 use crate::{lent, played, questions};
-use protocol_types::{BestAnswer, BestSchedule};
+use protocol_types::{BestSchedule, PlacedRefusal};
 use trials_cells::cells::{Cells, get, product, quotient};
 use trials_cells::state;
 
@@ -31,15 +31,15 @@ fn put_found(cells: &mut Cells, best: BestSchedule) {
     set_value(cells, EXCESS, best.excess);
 }
 
-fn put_refused(cells: &mut Cells, number: u32, place: usize) {
-    set_value(cells, REFUSAL, number);
-    set_value(cells, PLACE, narrow(place));
+fn put_refused(cells: &mut Cells, refused: PlacedRefusal) {
+    set_value(cells, REFUSAL, refused.refusal.number());
+    set_value(cells, PLACE, narrow(refused.place));
 }
 
-fn put_answer(cells: &mut Cells, answer: BestAnswer) {
+fn put_answer(cells: &mut Cells, answer: Result<BestSchedule, PlacedRefusal>) {
     match answer {
-        BestAnswer::Found(best) => put_found(cells, best),
-        BestAnswer::Refused(number, place) => put_refused(cells, number, place),
+        Ok(best) => put_found(cells, best),
+        Err(refused) => put_refused(cells, refused),
     }
 }
 

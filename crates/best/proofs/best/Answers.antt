@@ -4,8 +4,7 @@ use mathlib.Core.Path.{sym, subst}
 use native.Mathlib.Omega.{arith}
 use lib.ListN.{set}
 use Rattle.best_positions.specs.Best.{SearchTables, search_tables}
-use Rattle.best_steps.specs.Steps.{BestStage, best_stage}
-use Rattle.best_steps.specs.declared.BestProgress.{BestProgress}
+use Rattle.best_steps.specs.Steps.{BestProgress, BestStage, best_stage, stage_of}
 use Rattle.best.proofs.Loop.{FillingStage, filling_stage, Inv, μ, inv-start, asking, at_entry, inv-took, falls-took, inv-turned, falls-turned, inv-end}
 use Rattle.best.proofs.best.Goals as goal
 
@@ -21,14 +20,14 @@ take-p-requires c =
     let a = c.args in
     let q = c.loop-p in
     asking a.setup a.requests.now (search_tables a.distances.now a.order.now a.predecessors.now a.lowest.now) a.list.now a.steps
-    (filling_stage (best_stage q.p (search_tables q.distances q.order q.predecessors q.lowest)) q.list) q.invariant c.loop-p-test.true c.if-p.true
+    (filling_stage (stage_of q.p (search_tables q.distances q.order q.predecessors q.lowest)) q.list) q.invariant c.loop-p-test.true c.if-p.true
 
 pub loop-p-smaller-then-p : goal.loop-p-smaller-then-p
 loop-p-smaller-then-p c =
     let a = c.args in
     let q = c.loop-p in
     let x : SearchTables = search_tables a.distances.now a.order.now a.predecessors.now a.lowest.now in
-    let w : FillingStage = filling_stage (best_stage q.p (search_tables q.distances q.order q.predecessors q.lowest)) q.list in
+    let w : FillingStage = filling_stage (stage_of q.p (search_tables q.distances q.order q.predecessors q.lowest)) q.list in
     subst (λ (v : BestStage). μ a.setup a.requests.now x a.list.now a.steps (filling_stage v q.list) < μ a.setup a.requests.now x a.list.now a.steps w)
     (sym c.take-p.ensures) (falls-took a.setup a.requests.now x a.list.now a.steps w q.invariant c.loop-p-test.true c.if-p.true)
 
@@ -37,7 +36,7 @@ loop-p-preserved-then-p c =
     let a = c.args in
     let q = c.loop-p in
     let x : SearchTables = search_tables a.distances.now a.order.now a.predecessors.now a.lowest.now in
-    let w : FillingStage = filling_stage (best_stage q.p (search_tables q.distances q.order q.predecessors q.lowest)) q.list in
+    let w : FillingStage = filling_stage (stage_of q.p (search_tables q.distances q.order q.predecessors q.lowest)) q.list in
     subst (λ (v : BestStage). Inv a.setup a.requests.now x a.list.now a.steps (filling_stage v q.list)) (sym c.take-p.ensures)
     (inv-took a.setup a.requests.now x a.list.now a.steps w q.invariant c.loop-p-test.true c.if-p.true)
 
@@ -48,7 +47,7 @@ bounds-list-p c =
     omega (
       arith,
       at_entry a.setup a.requests.now (search_tables a.distances.now a.order.now a.predecessors.now a.lowest.now) a.list.now a.steps
-          (filling_stage (best_stage q.p (search_tables q.distances q.order q.predecessors q.lowest)) q.list) q.invariant c.loop-p-test.true c.if-p.false,
+          (filling_stage (stage_of q.p (search_tables q.distances q.order q.predecessors q.lowest)) q.list) q.invariant c.loop-p-test.true c.if-p.false,
     )
 
 pub loop-p-smaller : goal.loop-p-smaller
@@ -56,7 +55,7 @@ loop-p-smaller c =
     let a = c.args in
     let q = c.loop-p in
     let x : SearchTables = search_tables a.distances.now a.order.now a.predecessors.now a.lowest.now in
-    let w : FillingStage = filling_stage (best_stage q.p (search_tables q.distances q.order q.predecessors q.lowest)) q.list in
+    let w : FillingStage = filling_stage (stage_of q.p (search_tables q.distances q.order q.predecessors q.lowest)) q.list in
     subst
     (λ (p : BestProgress). μ a.setup a.requests.now x a.list.now a.steps (filling_stage (best_stage p w.stage.tables) (set q.list q.p.at q.p.entry)) < μ a.setup a.requests.now x a.list.now a.steps w)
     (sym c.turn-p.ensures) (falls-turned a.setup a.requests.now x a.list.now a.steps w q.invariant c.loop-p-test.true c.if-p.false)
@@ -66,7 +65,7 @@ loop-p-preserved c =
     let a = c.args in
     let q = c.loop-p in
     let x : SearchTables = search_tables a.distances.now a.order.now a.predecessors.now a.lowest.now in
-    let w : FillingStage = filling_stage (best_stage q.p (search_tables q.distances q.order q.predecessors q.lowest)) q.list in
+    let w : FillingStage = filling_stage (stage_of q.p (search_tables q.distances q.order q.predecessors q.lowest)) q.list in
     subst
     (λ (p : BestProgress). Inv a.setup a.requests.now x a.list.now a.steps (filling_stage (best_stage p w.stage.tables) (set q.list q.p.at q.p.entry)))
     (sym c.turn-p.ensures) (inv-turned a.setup a.requests.now x a.list.now a.steps w q.invariant c.loop-p-test.true c.if-p.false)
@@ -76,4 +75,4 @@ returns c =
     let a = c.args in
     let q = c.loop-p in
     inv-end a.setup a.requests.now (search_tables a.distances.now a.order.now a.predecessors.now a.lowest.now) a.list.now a.steps
-    (filling_stage (best_stage q.p (search_tables q.distances q.order q.predecessors q.lowest)) q.list) q.invariant c.loop-p-test.false
+    (filling_stage (stage_of q.p (search_tables q.distances q.order q.predecessors q.lowest)) q.list) q.invariant c.loop-p-test.false

@@ -1,6 +1,6 @@
 -- Each goal is a law of proofs/Loop.antt.
 use Rattle.best_positions.specs.Best.{search_tables}
-use Rattle.best_steps.specs.Steps.{best_stage}
+use Rattle.best_steps.specs.Steps.{stage_of}
 use Rattle.host_best.specs.Turns.{numbers_stage}
 use Rattle.host_best.proofs.Loop.{inv-start, ready, inv-turn, inv-falls, inv-end}
 use Rattle.host_best.proofs.best.Goals as goal
@@ -16,25 +16,25 @@ turn-p-requires c =
     let a = c.args in
     let q = c.loop-p in
     ready a.setup a.requests.now a.schedule.now a.steps (search_tables a.distances.now a.order.now a.predecessors.now a.lowest.now)
-    (numbers_stage (best_stage q.p (search_tables q.distances q.order q.predecessors q.lowest)) q.schedule) q.invariant c.loop-p-test.true
+    (numbers_stage (stage_of q.p (search_tables q.distances q.order q.predecessors q.lowest)) q.schedule) q.invariant c.loop-p-test.true
 
 pub loop-p-smaller : goal.loop-p-smaller
 loop-p-smaller c =
     let a = c.args in
     let q = c.loop-p in
     inv-falls a.setup a.requests.now a.schedule.now a.steps (search_tables a.distances.now a.order.now a.predecessors.now a.lowest.now)
-    (numbers_stage (best_stage q.p (search_tables q.distances q.order q.predecessors q.lowest)) q.schedule) q.invariant c.loop-p-test.true _ c.turn-p.ensures
+    (numbers_stage (stage_of q.p (search_tables q.distances q.order q.predecessors q.lowest)) q.schedule) q.invariant c.loop-p-test.true _ c.turn-p.ensures
 
 pub loop-p-preserved : goal.loop-p-preserved
 loop-p-preserved c =
     let a = c.args in
     let q = c.loop-p in
     inv-turn a.setup a.requests.now a.schedule.now a.steps (search_tables a.distances.now a.order.now a.predecessors.now a.lowest.now)
-    (numbers_stage (best_stage q.p (search_tables q.distances q.order q.predecessors q.lowest)) q.schedule) q.invariant c.loop-p-test.true _ c.turn-p.ensures
+    (numbers_stage (stage_of q.p (search_tables q.distances q.order q.predecessors q.lowest)) q.schedule) q.invariant c.loop-p-test.true _ c.turn-p.ensures
 
 pub returns : goal.returns
 returns c =
     let a = c.args in
     let q = c.loop-p in
     inv-end a.setup a.requests.now a.schedule.now a.steps (search_tables a.distances.now a.order.now a.predecessors.now a.lowest.now)
-    (numbers_stage (best_stage q.p (search_tables q.distances q.order q.predecessors q.lowest)) q.schedule) q.invariant c.loop-p-test.false
+    (numbers_stage (stage_of q.p (search_tables q.distances q.order q.predecessors q.lowest)) q.schedule) q.invariant c.loop-p-test.false

@@ -1,6 +1,6 @@
 -- The loop keeps what the laws of proofs/Loop.antt keep.
 use Rattle.best_positions.specs.Best.{search_tables}
-use Rattle.best_steps.specs.Steps.{best_stage}
+use Rattle.best_steps.specs.Steps.{stage_of}
 use Rattle.host_best.specs.Turns.{numbers_stage}
 use Rattle.host_best.proofs.Loop.{Inv, μ}
 use Rattle.host_best.proofs.best.Given as goal
@@ -8,9 +8,9 @@ use Rattle.host_best.proofs.best.Given as goal
 abbrev pub invariant-loop-p : goal.invariant-loop-p
 invariant-loop-p l =
     Inv l.setup l.requests l.fn.schedule l.steps (search_tables l.fn.distances l.fn.order l.fn.predecessors l.fn.lowest)
-    (numbers_stage (best_stage l.p (search_tables l.distances l.order l.predecessors l.lowest)) l.schedule)
+    (numbers_stage (stage_of l.p (search_tables l.distances l.order l.predecessors l.lowest)) l.schedule)
 
 abbrev pub decreases-loop-p : goal.decreases-loop-p
 decreases-loop-p l =
     μ l.setup l.requests l.fn.schedule l.steps (search_tables l.fn.distances l.fn.order l.fn.predecessors l.fn.lowest)
-    (numbers_stage (best_stage l.p (search_tables l.distances l.order l.predecessors l.lowest)) l.schedule)
+    (numbers_stage (stage_of l.p (search_tables l.distances l.order l.predecessors l.lowest)) l.schedule)
