@@ -3,13 +3,15 @@
 
 ghost use Rattle.std.specs.Prelude.{◌≡◌};
 ghost use Rattle.protocol_types.specs.Board.{Fits};
+ghost use Rattle.protocol_types.specs.Refusals.{refusal_number};
 ghost use Rattle.protocol.specs.Lent.{lent_masked};
 ghost use Rattle.protocol.specs.Runs.{start_refusal, started, looked};
 ghost use Rattle.engine_tables.specs.Entries.{lengths_fit, seen};
 
-use protocol_types::{Block, Setup};
+use protocol_types::{Block, Refusal, Setup};
 
 // Whether tables and masks of these lengths are let through by condition 2.
+#[tactic(auto, unfolding(crate::specs::Entries::lengths_fit))]
 pub fn lengths_fit(
     setup: Setup,
     blocks: usize,
@@ -22,25 +24,17 @@ pub fn lengths_fit(
     requires { Fits setup }
     ensures { result ≡ lengths_fit setup blocks counters marks words memory masks }
 {
-    if blocks != setup.slot_count() {
-        return false;
-    }
-    if counters != setup.slot_count() {
-        return false;
-    }
-    if marks != setup.slot_count() {
-        return false;
-    }
-    if words != setup.word_count() {
-        return false;
-    }
-    if memory != setup.variable_count() as usize {
-        return false;
-    }
-    masks == setup.blocks as usize
+    let slots = setup.slot_count();
+    let variables = setup.variable_count() as usize;
+    blocks == slots
+        && counters == slots
+        && marks == slots
+        && words == setup.word_count()
+        && memory == variables
+        && masks == setup.blocks as usize
 }
 
-// Fills all tables and masks with 0. The refusal number, or 0.
+// Fills all tables and masks with 0.
 pub fn start(
     setup: Setup,
     blocks: &mut [u32],
@@ -49,14 +43,11 @@ pub fn start(
     words: &mut [u32],
     memory: &mut [u32],
     masks: &mut [u8],
-) -> u32
-    ensures value { result ≡ start_refusal setup (lent_masked blocks.old counters.old marks.old words.old memory.old masks.old) }
+) -> Result<(), Refusal>
+    ensures value { refusal_number result ≡ start_refusal setup (lent_masked blocks.old counters.old marks.old words.old memory.old masks.old) }
     ensures masks_value { lent_masked blocks.new counters.new marks.new words.new memory.new masks.new ≡ started setup (lent_masked blocks.old counters.old marks.old words.old memory.old masks.old) }
 {
-    let refusal = setup.refusal();
-    if refusal != protocol_types::NO_REFUSAL {
-        return refusal;
-    }
+    setup.check()?;
     if !lengths_fit(
         setup,
         blocks.len(),
@@ -66,18 +57,19 @@ pub fn start(
         memory.len(),
         masks.len(),
     ) {
-        return protocol_types::WRONG_LENGTH;
+        return Err(Refusal::WrongLength);
     }
-    parts::clear(blocks);
-    parts::clear(counters);
-    parts::clear(marks);
-    parts::clear(words);
-    parts::clear(memory);
-    parts::clear_bytes(masks);
-    protocol_types::NO_REFUSAL
+    blocks.fill(0);
+    counters.fill(0);
+    marks.fill(0);
+    words.fill(0);
+    memory.fill(0);
+    masks.fill(0);
+    Ok(())
 }
 
 // Whether a look at a block in a processor's cache shows it, the words being `count`.
+#[tactic(auto, unfolding(crate::specs::Entries::seen))]
 fn sees(
     setup: Setup,
     processor: u32,
@@ -88,25 +80,16 @@ fn sees(
 ) -> bool
     ensures { result ≡ seen setup blocks.now counters.now count processor block }
 {
-    if setup.refusal() != protocol_types::NO_REFUSAL {
+    if setup.check().is_err() {
         return false;
     }
-    if blocks.len() != setup.slot_count() {
-        return false;
-    }
-    if counters.len() != setup.slot_count() {
-        return false;
-    }
-    if count != setup.word_count() {
-        return false;
-    }
-    if processor >= setup.processors {
-        return false;
-    }
-    if block.0 >= setup.blocks {
-        return false;
-    }
-    engine_holders::holds(setup, processor, block, blocks, counters)
+    let slots = setup.slot_count();
+    blocks.len() == slots
+        && counters.len() == slots
+        && count == setup.word_count()
+        && processor < setup.processors
+        && block.0 < setup.blocks
+        && engine_holders::holds(setup, processor, block, blocks, counters)
 }
 
 // The words of a block in a processor's cache; none where it is not held there.
@@ -121,10 +104,9 @@ pub fn look<'a>(
     ensures { result.now ≡ looked setup blocks.now counters.now words.now processor block }
 {
     if !sees(setup, processor, block, blocks, counters, words.len()) {
-        return &words[0..0];
+        return &[];
     }
-    let p = setup.words as usize;
-    let a = setup.slot(processor, block) * p;
-    let e = a + p;
-    &words[a..e]
+    let n = setup.words as usize;
+    let start = setup.slot(processor, block) * n;
+    &words[start..start + n]
 }

@@ -79,7 +79,10 @@ pub extern "C" fn cuzkelor_start(
         fetch_price,
         write_back_price,
     );
-    engine_tables::start(setup, blocks, counters, marks, words, memory, masks)
+    match engine_tables::start(setup, blocks, counters, marks, words, memory, masks) {
+        Ok(()) => 0,
+        Err(refusal) => refusal.number(),
+    }
 }
 
 // The length of the part of the words that a look at a block shows; 0 where it is not held.

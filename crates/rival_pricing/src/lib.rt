@@ -8,7 +8,6 @@ ghost use Rattle.protocol.specs.Pricer.{price_request_limit, price_entry_limit, 
 ghost use Rattle.rival_copies.specs.Copies.{rival_lent};
 ghost use Rattle.rival_pricing.specs.Stages.{completes, broadcasts, awaits, price_stage, pricing_at, advanced, waiting, pricing_stopped, rejected, reached, Paid};
 
-use parts::clear;
 use protocol_types::{Entry, PriceAnswer, Setup};
 
 // The entries that the pricer takes.
@@ -125,9 +124,9 @@ pub fn clear_all<'a>(setup: Setup, blocks: &'a mut [u32], held: &'a mut [u32], m
     requires { RivalSized setup (rival_lent blocks.old held.old marks.old) }
     ensures { rival_lent blocks.new held.new marks.new ≡ no_copies setup }
 {
-    clear(blocks);
-    clear(held);
-    clear(marks);
+    blocks.fill(0);
+    held.fill(0);
+    marks.fill(0);
 }
 
 // A refusal after the start zeroes the tables.

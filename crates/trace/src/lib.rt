@@ -185,7 +185,7 @@ pub fn count_trace(
         ≡ ended_on (lent blocks.old counters.old marks.old words.old memory.old) bytes.now }
 {
     let mut masks = [0u8; BLOCKS];
-    let started = engine_tables::start(
+    if let Err(refusal) = engine_tables::start(
         trace_setup(),
         blocks,
         counters,
@@ -193,8 +193,7 @@ pub fn count_trace(
         words,
         memory,
         &mut masks,
-    );
-    if started != protocol_types::NO_REFUSAL {
+    ) {
         return Report {
             account: Account {
                 requests: 0,
@@ -202,7 +201,7 @@ pub fn count_trace(
                 write_back: 0,
                 update: 0,
             },
-            refusal: started,
+            refusal: refusal.number(),
             line: 0,
         };
     }

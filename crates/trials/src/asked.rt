@@ -174,7 +174,7 @@ fn start(cells: &mut Cells, setup: Setup) -> u32 {
     let d = lend_table(view, lent::WORDS_TABLE, &mut words);
     let e = lend_table(view, lent::MEMORY_TABLE, &mut memory);
     let f = lend_masks(view, &mut masks);
-    let refusal = engine_tables::start(
+    let started = engine_tables::start(
         setup,
         &mut blocks[..a],
         &mut counters[..b],
@@ -189,7 +189,10 @@ fn start(cells: &mut Cells, setup: Setup) -> u32 {
     back(cells, lent::WORDS_TABLE, &words);
     back(cells, lent::MEMORY_TABLE, &memory);
     masks_back(cells, &masks);
-    refusal
+    match started {
+        Ok(()) => 0,
+        Err(refusal) => refusal.number(),
+    }
 }
 
 // A run of the first n numbers of the requests.

@@ -23,23 +23,23 @@ slot-requires c =
       processor_lt_processors = omega (arith, v.processor, v.fits);
     }
 
-pub overflow_mul-a : goal.overflow_mul-a
+pub overflow_mul-start : goal.overflow_mul-start
 unfolding word_index
-overflow_mul-a c =
+overflow_mul-start c =
     let a = c.args in
     let v = shown a.setup a.blocks.now a.counters.now (length a.words.now) a.processor a.block (sym c.sees.ensures ∙ c.if-not-sees.false) in
     omega (arith, row-end a.setup c.slot.result (slots a.setup) c.slot.ensures.within, v.words)
 
-pub overflow_add-e : goal.overflow_add-e
+pub overflow_add-result : goal.overflow_add-result
 unfolding word_index
-overflow_add-e c =
+overflow_add-result c =
     let a = c.args in
     let v = shown a.setup a.blocks.now a.counters.now (length a.words.now) a.processor a.block (sym c.sees.ensures ∙ c.if-not-sees.false) in
     omega (arith, row-end a.setup c.slot.result (slots a.setup) c.slot.ensures.within, v.words)
 
-pub offset_bounds-words-a : goal.offset_bounds-words-a
+pub offset_bounds-words-start : goal.offset_bounds-words-start
 unfolding word_index
-offset_bounds-words-a c =
+offset_bounds-words-start c =
     let a = c.args in
     let v = shown a.setup a.blocks.now a.counters.now (length a.words.now) a.processor a.block (sym c.sees.ensures ∙ c.if-not-sees.false) in
     omega (arith, row-end a.setup c.slot.result (slots a.setup) c.slot.ensures.within, v.words)

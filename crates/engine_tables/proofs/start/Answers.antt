@@ -4,26 +4,27 @@ use mathlib.Core.Path.{sym, ◌∙◌}
 use Rattle.protocol.specs.Tables.{tables, fresh}
 use Rattle.protocol.specs.Masks.{masked, fresh_masked}
 use Rattle.protocol_types.proofs.Board.{setup-fits}
-use Rattle.engine_tables.proofs.Tests.{start-refused, start-unsized, start-filled, sized-is, passed-lengths}
+use Rattle.protocol_types.proofs.Refusals.{refusal-at_exit}
+use Rattle.engine_tables.proofs.Tests.{some-number, start-refused, start-unsized, start-filled, sized-is, passed-lengths}
 use Rattle.engine_tables.proofs.start.Goals as goal
 
-pub returns-then-refusal-ne-NO_REFUSAL : goal.returns-then-refusal-ne-NO_REFUSAL
-returns-then-refusal-ne-NO_REFUSAL c =
+pub returns-in_err-check : goal.returns-in_err-check
+returns-in_err-check c =
     let a = c.args in
-    let r = start-refused a.setup (masked (tables a.blocks.now a.counters.now a.marks.now a.words.now a.memory.now) a.masks.now) (λ e. c.if-refusal-ne-NO_REFUSAL.true (c.refusal-refusal.ensures ∙ e)) in record {
-      value = c.refusal-refusal.ensures ∙ r.0;
+    let refused = refusal-at_exit _ _ c.from_residual.result c.from_residual.ensures.1 c.in_err-check.ensures in
+    let r = start-refused a.setup (masked (tables a.blocks.now a.counters.now a.marks.now a.words.now a.memory.now) a.masks.now) (λ e. some-number _ (c.in_err-check.ensures ∙ e)) in record {
+      value = refused ∙ r.0;
       masks_value = r.1;
     }
 
 pub lengths_fit-requires : goal.lengths_fit-requires
-lengths_fit-requires c =
-    setup-fits c.args.setup (sym c.refusal-refusal.ensures ∙ c.if-refusal-ne-NO_REFUSAL.false)
+lengths_fit-requires c = setup-fits c.args.setup (sym c.in_ok-check.ensures)
 
 pub returns-then-not-lengths_fit : goal.returns-then-not-lengths_fit
 returns-then-not-lengths_fit c =
     let a = c.args in
     let x = masked (tables a.blocks.now a.counters.now a.marks.now a.words.now a.memory.now) a.masks.now in
-    let r = start-unsized a.setup x (sym c.refusal-refusal.ensures ∙ c.if-refusal-ne-NO_REFUSAL.false) (sized-is a.setup x ∙ sym c.lengths_fit.ensures ∙ c.if-not-lengths_fit.true) in record {
+    let r = start-unsized a.setup x (sym c.in_ok-check.ensures) (sized-is a.setup x ∙ sym c.lengths_fit.ensures ∙ c.if-not-lengths_fit.true) in record {
       value = r.0;
       masks_value = r.1;
     }
@@ -36,15 +37,15 @@ returns c =
     let l = sized-is a.setup x ∙ sym c.lengths_fit.ensures ∙ c.if-not-lengths_fit.false in
     let lengths = passed-lengths a.setup x l in
     let z = lengths.0 in
-    let r = start-filled a.setup x (sym c.refusal-refusal.ensures ∙ c.if-refusal-ne-NO_REFUSAL.false) l in record {
+    let r = start-filled a.setup x (sym c.in_ok-check.ensures) l in record {
       value = r.0;
       masks_value = rw (
-        c.clear.ensures,
-        c.clear-2.ensures,
-        c.clear-3.ensures,
-        c.clear-4.ensures,
-        c.clear-5.ensures,
-        c.clear_bytes.ensures,
+        c.fill.ensures.after (λ y e. e),
+        c.fill-2.ensures.after (λ y e. e),
+        c.fill-3.ensures.after (λ y e. e),
+        c.fill-4.ensures.after (λ y e. e),
+        c.fill-5.ensures.after (λ y e. e),
+        c.fill-6.ensures.after (λ y e. e),
         z.blocks,
         z.counters,
         z.marks,

@@ -1,22 +1,16 @@
--- A row starts at its index of word 0.
+-- A row starts at its index of word 0, lies within the words, and comes back as the other (part-copied).
+use Prim.Native.Nat.{◌*◌}
+use mathlib.Core.Path.{◌∙◌}
 use native.Mathlib.Nat.{add-zero}
 use native.Mathlib.Omega.{arith}
 use Rattle.protocol_types.specs.Board.{word_index}
+use Rattle.parts.proofs.Laws.{part-copied}
 use Rattle.parts.proofs.copy_row.Goals as goal
-
-pub overflow_mul-row : goal.overflow_mul-row
-unfolding word_index
-overflow_mul-row c = omega arith
-
-pub overflow_mul-into : goal.overflow_mul-into
-unfolding word_index
-overflow_mul-into c = omega arith
-
-pub copy_part-requires : goal.copy_part-requires
-unfolding word_index
-copy_part-requires c = omega arith
 
 pub returns : goal.returns
 unfolding word_index
 returns c =
-    simp add-zero c.copy_part.ensures
+    let a = c.args in
+    let n = a.setup.words in
+    simp add-zero
+    (part-copied a.to.now c.copy_from_slice.new.self a.from.now (a.into * n) (a.row * n) n (omega arith) (omega arith) (c.copy_from_slice.ensures.after ∙ c.row_of.ensures ∙ simp add-zero))

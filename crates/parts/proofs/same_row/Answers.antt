@@ -1,20 +1,16 @@
--- A row starts at its index of word 0.
+-- Two slices are the same where each pair of words is (parts-tested).
+use Prim.Native.Nat.{◌*◌}
+use mathlib.Core.Path.{◌∙◌}
+use native.Mathlib.Nat.{add-zero}
 use native.Mathlib.Omega.{arith}
+use lib.Dec.{eqb}
 use Rattle.protocol_types.specs.Board.{word_index}
+use Rattle.parts.proofs.Laws.{parts-tested}
 use Rattle.parts.proofs.same_row.Goals as goal
-
-pub overflow_mul-i : goal.overflow_mul-i
-unfolding word_index
-overflow_mul-i c = omega arith
-
-pub overflow_mul-j : goal.overflow_mul-j
-unfolding word_index
-overflow_mul-j c = omega arith
-
-pub same_part-requires : goal.same_part-requires
-unfolding word_index
-same_part-requires c = omega arith
 
 pub returns : goal.returns
 unfolding word_index
-returns c = c.same_part.ensures
+returns c =
+    let a = c.args in
+    let n = a.setup.words in
+    c.eq.ensures ∙ simp (c.row_of.ensures, c.row_of-2.ensures, add-zero) (parts-tested eqb a.x.now a.y.now (a.i * n) (a.j * n) n (omega arith) (omega arith))

@@ -9,7 +9,7 @@ unfolding no_copies
 returns c =
     let z = c.requires in
     λ i. record {
-      blocks = (c.clear.ensures ∙ ap zeros z.blocks) i;
-      held = (c.clear-2.ensures ∙ ap zeros z.held) i;
-      marks = (c.clear-3.ensures ∙ ap zeros z.marks) i;
+      blocks = (c.fill.ensures.after (λ y e. e) ∙ ap zeros z.blocks) i;
+      held = (c.fill-2.ensures.after (λ y e. e) ∙ ap zeros z.held) i;
+      marks = (c.fill-3.ensures.after (λ y e. e) ∙ ap zeros z.marks) i;
     }

@@ -1,21 +1,22 @@
 -- Tables that are not started are of the wrong lengths (`not-started`); those that are started are fresh (`now-started`), with
 -- true masks (`fresh-with-masks`).
-use mathlib.Core.Path.{sym, ◌∙◌}
+use mathlib.Core.Path.{refl, sym, ◌∙◌}
 use Rattle.trace_lines.specs.Trace.{trace_setup}
+use Rattle.engine_tables.proofs.Tests.{some-number}
 use Rattle.trace.proofs.Laws.{fresh-with-masks, not-started, now-started, ended-started}
 use Rattle.trace.proofs.count_trace.Goals as goal
 
-pub returns-then-started-ne-NO_REFUSAL : goal.returns-then-started-ne-NO_REFUSAL
+pub returns-in-Err : goal.returns-in-Err
 unfolding trace_setup
-returns-then-started-ne-NO_REFUSAL c =
-    let e = rw c.trace_setup.ensures at c.start-started.ensures in
-    not-started _ _ _ e.value e.masks_value _ c.if-started-ne-NO_REFUSAL.true
+returns-in-Err c =
+    let e = rw c.trace_setup.ensures at c.in-Err.ensures in
+    rw c.number.ensures (not-started _ _ _ e.value e.masks_value _ (some-number _))
 
 pub count_fresh-requires : goal.count_fresh-requires
 unfolding trace_setup
 count_fresh-requires c =
-    let e = rw c.trace_setup.ensures at c.start-started.ensures in
-    let f = fresh-with-masks _ (now-started _ _ _ e.value e.masks_value c.if-started-ne-NO_REFUSAL.false).1 in record {
+    let e = rw c.trace_setup.ensures at c.in_default.ensures in
+    let f = fresh-with-masks _ (now-started _ _ _ e.value e.masks_value refl).1 in record {
       memory_value = f.0;
       true_masks = f.1;
     }
@@ -23,5 +24,5 @@ count_fresh-requires c =
 pub returns : goal.returns
 unfolding trace_setup
 returns c =
-    let e = rw c.trace_setup.ensures at c.start-started.ensures in
-    c.count_fresh.ensures ∙ sym (ended-started _ _ (now-started _ _ _ e.value e.masks_value c.if-started-ne-NO_REFUSAL.false).0)
+    let e = rw c.trace_setup.ensures at c.in_default.ensures in
+    c.count_fresh.ensures ∙ sym (ended-started _ _ (now-started _ _ _ e.value e.masks_value refl).0)
