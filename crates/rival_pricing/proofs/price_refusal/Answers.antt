@@ -1,27 +1,31 @@
--- The first condition met gives the number: 1, then 2, then 5.
-use mathlib.Core.Path.{sym, ◌∙◌}
+-- The first condition met gives the refusal: 1 or 10, then 2, then 5.
+use mathlib.Core.Path.{sym}
 use Rattle.std.proofs.Common.{rules}
-use borrow.Author.Tests.{ne_eqb}
 use Rattle.protocol_types.specs.Refusals.{no_refusal}
-use Rattle.protocol.specs.Pricer.{price_refusal}
 use Rattle.protocol_types.proofs.Board.{setup-fits}
+use Rattle.protocol_types.proofs.Refusals.{refusal-at_exit}
+use Rattle.protocol.specs.Pricer.{price_refusal}
+use Rattle.rival_pricing.proofs.Laws.{number-first}
 use Rattle.rival_pricing.proofs.price_refusal.Goals as goal
 
-pub returns-then-refusal-ne-NO_REFUSAL : goal.returns-then-refusal-ne-NO_REFUSAL
+pub returns-in_err-check : goal.returns-in_err-check
 unfolding price_refusal
-returns-then-refusal-ne-NO_REFUSAL c = rw (← c.refusal-refusal.ensures, ne_eqb c.refusal-refusal.result no_refusal c.if-refusal-ne-NO_REFUSAL.true)
+returns-in_err-check c =
+    let e = c.in_err-check.field-0.0 in
+    refusal-at_exit e no_refusal c.from_residual.result c.from_residual.ensures.1
+    (rw (← c.in_err-check.ensures) (sym (number-first e _)))
 
 pub is_sized-fit-requires : goal.is_sized-fit-requires
-is_sized-fit-requires c = setup-fits c.args.setup (sym c.refusal-refusal.ensures ∙ c.if-refusal-ne-NO_REFUSAL.false)
+is_sized-fit-requires c = setup-fits c.args.setup (sym (c.in_ok-check.ensures))
 
 pub returns-then-not-fit : goal.returns-then-not-fit
 unfolding price_refusal
-returns-then-not-fit c = search rules
+returns-then-not-fit c = rw (← c.in_ok-check.ensures) (search rules)
 
 pub returns-then-not-few : goal.returns-then-not-few
 unfolding price_refusal
-returns-then-not-few c = search rules
+returns-then-not-few c = rw (← c.in_ok-check.ensures) (search rules)
 
 pub returns : goal.returns
 unfolding price_refusal
-returns c = search rules
+returns c = rw (← c.in_ok-check.ensures) (search rules)

@@ -1,0 +1,64 @@
+-- The price where 1, 10, 2 and 5 refuse and where they let the lists through; and over lists that may not be whole.
+-- Assumes nothing.
+use Prim.Native.Nat.{ℕ}
+use mathlib.Core.Path.{◌≡◌, refl, sym, ap, ◌∙◌}
+use mathlib.Core.Bool.{Bool, true, false}
+use mathlib.Core.List.{List}
+use lib.ListN.{length}
+use borrow.Author.Tests.{eq-eqb}
+use Rattle.protocol_types.specs.Refusals.{no_refusal, number}
+use Rattle.protocol_types.specs.Answers.{PriceAnswer, Refused}
+use Rattle.protocol_types.specs.declared.Setup.{Setup}
+use Rattle.protocol_types.specs.declared.Request.{Request}
+use Rattle.protocol_types.specs.declared.Entry.{Entry}
+use Rattle.protocol_types.specs.declared.Refusal.{Refusal}
+use Rattle.protocol.specs.Rival.{Rival, no_copies}
+use Rattle.protocol.specs.Pricer.{Verdict, accepted, refused, verdict, price_refusal, answer_to, price, copies_after, price_tables, in_numbers}
+use Rattle.protocol.proofs.Pricer.{PricePassed, price-passed, price-numbers}
+use Rattle.host_decoding.specs.Records.{partial_refusal}
+use Rattle.rival_pricing.proofs.Laws.{number-refuses}
+use Rattle.rival_pricer.specs.Priced.{price_of_lists, price_in_numbers_of_lists, price_tables_of_lists}
+
+-- a refused schedule leaves zeros
+pub refused-tables : (s : Setup) (v : Verdict) (n k : ℕ) → answer_to v ≡ Refused n k → no_copies s ≡ copies_after s v
+refused-tables s (accepted r c) n k e = cc
+refused-tables s (refused m j) n k e = refl
+
+-- ---- 1, 10, 2 and 5, for lists of n entries and m requests
+
+module _ (s : Setup) (r : Rival) (qs : List Request) (es : List Entry) (n m : ℕ) (n-is : n ≡ length es) (m-is : m ≡ length qs) where
+  pub start-refused : (x : Refusal) → number x ≡ price_refusal s r n m
+      → (Refused (number x) 0 ≡ price s r qs es) × (r ≡ price_tables s r qs es)
+  unfolding price price_tables
+  start-refused x is =
+      let e : number x ≡ price_refusal s r (length es) (length qs) = rw (← n-is, ← m-is) is in
+      (rw (← e, number-refuses x), rw (← e, number-refuses x))
+
+  module _ (allowed : no_refusal ≡ price_refusal s r n m) where
+    passes : price_refusal s r (length es) (length qs) ≡ no_refusal
+    passes = rw (← n-is, ← m-is) (sym allowed)
+
+    pub start-knows : PricePassed s r (length es) (length qs)
+    start-knows = price-passed s r (length es) (length qs) passes
+
+    pub start-passed : {a : PriceAnswer} {t : Rival} → answer_to (verdict s qs es) ≡ a → copies_after s (verdict s qs es) ≡ t
+        → (a ≡ price s r qs es) × (t ≡ price_tables s r qs es)
+    unfolding price price_tables
+    start-passed is-a is-t =
+        let p = eq-eqb (price_refusal s r (length es) (length qs)) no_refusal passes in
+        (rw (p, is-a), rw (p, is-t))
+
+-- ---- lists of which it is known whether both are whole
+
+module _ (s : Setup) (r : Rival) (qs : List Request) (es : List Entry) where
+  -- an answer, the same in numbers, and the tables
+  abbrev pub Priced : Bool → PriceAnswer → Rival → Type 0
+  Priced w a t =
+      (a ≡ price_of_lists s r w qs es) × (in_numbers a ≡ price_in_numbers_of_lists s r w qs es) × (t ≡ price_tables_of_lists s r w qs es)
+
+  pub price-partial : {w : Bool} → w ≡ false → {n : ℕ} → n ≡ partial_refusal s → Priced w (Refused n 0) r
+  price-partial e is = (rw (e, is), rw (e, is), rw e)
+
+  pub price-whole : {w : Bool} → w ≡ true → {a : PriceAnswer} {t : Rival}
+      → (a ≡ price s r qs es) × (t ≡ price_tables s r qs es) → Priced w a t
+  price-whole e p = (rw e p.0, rw e (ap in_numbers p.0 ∙ price-numbers s r qs es), rw e p.1)

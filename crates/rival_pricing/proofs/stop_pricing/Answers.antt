@@ -1,6 +1,0 @@
--- The fields, one by one.
-use mathlib.Core.Path.{refl}
-use Rattle.rival_pricing.proofs.stop_pricing.Goals as goal
-
-pub returns : goal.returns
-returns c = refl
