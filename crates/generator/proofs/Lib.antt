@@ -1,1 +1,3 @@
-pub mod Loop
+pub mod Refused
+pub mod Passed
+pub mod Instances

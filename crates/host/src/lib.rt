@@ -11,7 +11,7 @@ ghost use Rattle.rival_copies.specs.Copies.{rival_lent};
 ghost use Rattle.run_progress.specs.Progress.{outcome};
 ghost use Rattle.trace_lines.specs.Trace.{ended_on};
 ghost use Rattle.host_looks.specs.Looks.{look_length, look_offset};
-ghost use Rattle.host_generator.specs.Numbers.{generate_numbers_refusal, generated_numbers};
+ghost use Rattle.generator.specs.Numbers.{generate_numbers_refusal, generated_numbers};
 ghost use Rattle.host_best.specs.Numbers.{best_numbers_refusal, best_of_numbers, best_numbers, numbered as bestNumbered, in_numbers as bestInNumbers};
 ghost use Rattle.best_schedule.specs.Lent.{search_lent};
 ghost use Rattle.host_numbers.specs.Numbers.{account_of, run_numbers, price_in_numbers, price_tables_of_numbers};
@@ -348,7 +348,10 @@ pub extern "C" fn cuzkelor_generate(
         fetch_price,
         write_back_price,
     );
-    host_generator::generate(setup, seed, requests)
+    match generator::generate(setup, seed, requests) {
+        Ok(()) => 0,
+        Err(refusal) => refusal.number(),
+    }
 }
 
 // A whole trace on tables that are started here. The refusal number, or 0.

@@ -22,7 +22,7 @@ use Rattle.host_decoding.specs.Records.{request_width, request_at, requests_of, 
 use Rattle.host_decoding.proofs.Decoding.{request-count, request-at, entry-count}
 use Rattle.host_encoding.specs.Numbers.{entry_numbers, schedule_numbers}
 use Rattle.host_encoding.proofs.Numbers.{length-schedule, schedule-append}
-use Rattle.generator_steps.proofs.Fronts.{sets-after}
+use Rattle.stored_lists.proofs.Fronts.{sets-after}
 use Rattle.host_best.specs.Numbers.{entries_lent, numbers_sized, best_numbers_refusal, best_of_numbers, best_numbers}
 use Rattle.host_best.specs.Turns.{NumbersStage, numbers_stage, put, numbers_turned, Ready}
 

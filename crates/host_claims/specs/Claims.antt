@@ -13,7 +13,7 @@ use Rattle.protocol_types.specs.SearchAnswers.{Found}
 use Rattle.best_positions.specs.Best.{SearchTables, best_schedule}
 use Rattle.host_decoding.specs.Records.{entry_width, requests_of, entries_of}
 use Rattle.host_numbers.specs.Numbers.{run_numbers, price_of_numbers}
-use Rattle.host_generator.specs.Numbers.{generate_numbers_refusal, generated_numbers}
+use Rattle.generator.specs.Numbers.{generate_numbers_refusal, generated_numbers}
 use Rattle.host_best.specs.Numbers.{best_of_numbers, best_numbers}
 
 -- numbers that 1, 10, 2, 11 and 5 let through, as the generator leaves them: what `Repeatable` (competitive/specs/Claims) says of requests

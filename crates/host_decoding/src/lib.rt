@@ -1,10 +1,12 @@
-// Requests and a schedule's entries, read from lists of numbers, and what refuses a list that is not whole.
+// Requests and a schedule's entries, read from lists of numbers, and the check that refuses a list that is not whole.
 #![tactic(auto)]
 
-ghost use Rattle.std.specs.Prelude.{◌≡◌, ◌/◌, ◌<◌, length};
+ghost use Rattle.std.specs.Prelude.{◌≡◌, ◌/◌, ◌<◌, cond, length};
+ghost use Rattle.protocol_types.specs.Board.{setup_refusal};
+ghost use Rattle.protocol_types.specs.Refusals.{refusal_number};
 ghost use Rattle.host_decoding.specs.Records.{request_width, entry_width, whole, both_whole, partial_refusal, operation_of, request_of, request_at, requests_of, entry_of, entry_at, entries_of};
 
-use protocol_types::{Block, Entry, Operation, Request, Setup, Variable};
+use protocol_types::{Block, Entry, Operation, Refusal, Request, Setup, Variable};
 
 // How many numbers name a request.
 pub const REQUEST_WIDTH: usize = 4;
@@ -13,6 +15,7 @@ pub const REQUEST_WIDTH: usize = 4;
 pub const ENTRY_WIDTH: usize = 3;
 
 // Whether a list of numbers is a whole number of records of `width` numbers each.
+#[tactic(auto, unfolding(crate::specs::Records::whole))]
 pub fn is_whole(numbers: &[u32], width: usize) -> bool
     requires { 0 < width }
     ensures { result ≡ whole width numbers.now }
@@ -24,21 +27,19 @@ pub fn is_whole(numbers: &[u32], width: usize) -> bool
 pub fn are_whole(requests: &[u32], entries: &[u32]) -> bool
     ensures { result ≡ both_whole requests.now entries.now }
 {
-    if !is_whole(requests, REQUEST_WIDTH) {
-        return false;
-    }
-    is_whole(entries, ENTRY_WIDTH)
+    is_whole(requests, REQUEST_WIDTH) && is_whole(entries, ENTRY_WIDTH)
 }
 
-// The refusal number of a list that is not whole: the setup's, or else 2.
-pub fn partial_refusal(setup: Setup) -> u32
-    ensures { result ≡ partial_refusal setup }
+// Whether the setup is refused, or else, by 2, a list that is not whole.
+#[tactic(auto, unfolding(crate::specs::Records::partial_refusal))]
+pub fn check_whole(setup: Setup, whole: bool) -> Result<(), Refusal>
+    ensures { refusal_number result ≡ cond whole (setup_refusal setup) (partial_refusal setup) }
 {
-    let refusal = setup.refusal();
-    if refusal != protocol_types::NO_REFUSAL {
-        return refusal;
+    setup.check()?;
+    if !whole {
+        return Err(Refusal::WrongLength);
     }
-    protocol_types::WRONG_LENGTH
+    Ok(())
 }
 
 // How many requests a list of numbers names.
@@ -49,26 +50,25 @@ pub fn request_count(numbers: &[u32]) -> usize
 }
 
 // An operation by its number, its variable and its value: 1 writes, 2 clears, any other number reads.
+#[tactic(auto, unfolding(crate::specs::Records::operation_of))]
 fn operation_of(operation: u32, variable: u32, value: u32) -> Operation
     ensures { result ≡ operation_of operation variable value }
 {
-    if operation == 1 {
-        return Operation::Write(Variable(variable), value);
+    match operation {
+        1 => Operation::Write(Variable(variable), value),
+        2 => Operation::Clear,
+        _ => Operation::Read(Variable(variable)),
     }
-    if operation == 2 {
-        return Operation::Clear;
-    }
-    Operation::Read(Variable(variable))
 }
 
 // A request by its four numbers.
+#[tactic(auto, unfolding(crate::specs::Records::request_of))]
 fn request_of(processor: u32, operation: u32, variable: u32, value: u32) -> Request
     ensures { result ≡ request_of processor operation variable value }
 {
-    let asked = operation_of(operation, variable, value);
     Request {
-        processor: processor,
-        operation: asked,
+        processor,
+        operation: operation_of(operation, variable, value),
     }
 }
 
@@ -89,22 +89,17 @@ pub fn entry_count(numbers: &[u32]) -> usize
 }
 
 // An entry by its three numbers.
+#[tactic(auto, unfolding(crate::specs::Records::entry_of))]
 fn entry_of(kind: u32, processor: u32, block: u32) -> Entry
     ensures { result ≡ entry_of kind processor block }
 {
-    if kind == 0 {
-        return Entry::Fetch(processor, Block(block));
+    match kind {
+        0 => Entry::Fetch(processor, Block(block)),
+        1 => Entry::WriteBack(processor, Block(block)),
+        2 => Entry::Drop(processor, Block(block)),
+        3 => Entry::Complete,
+        _ => Entry::CompleteByBroadcast,
     }
-    if kind == 1 {
-        return Entry::WriteBack(processor, Block(block));
-    }
-    if kind == 2 {
-        return Entry::Drop(processor, Block(block));
-    }
-    if kind == 3 {
-        return Entry::Complete;
-    }
-    Entry::CompleteByBroadcast
 }
 
 // Entry i of a list of numbers.

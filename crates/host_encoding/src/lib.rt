@@ -24,8 +24,7 @@ fn variable_number(operation: Operation) -> u32
     ensures { result ≡ variable_number operation }
 {
     match operation {
-        Operation::Read(v) => v.0,
-        Operation::Write(v, _) => v.0,
+        Operation::Read(v) | Operation::Write(v, _) => v.0,
         Operation::Clear => 0,
     }
 }
@@ -35,9 +34,8 @@ fn value_number(operation: Operation) -> u32
     ensures { result ≡ value_number operation }
 {
     match operation {
-        Operation::Read(_) => 0,
         Operation::Write(_, x) => x,
-        Operation::Clear => 0,
+        Operation::Read(_) | Operation::Clear => 0,
     }
 }
 
@@ -47,10 +45,9 @@ pub fn store_request(numbers: &mut [u32], i: usize, request: Request)
     ensures { numbers.new ≡ sets numbers.old (i * request_width) (request_numbers request) }
 {
     let k = i * host_decoding::REQUEST_WIDTH;
-    let asked = request.operation;
-    let operation = operation_number(asked);
-    let variable = variable_number(asked);
-    let value = value_number(asked);
+    let operation = operation_number(request.operation);
+    let variable = variable_number(request.operation);
+    let value = value_number(request.operation);
     numbers[k] = request.processor;
     numbers[k + 1] = operation;
     numbers[k + 2] = variable;
@@ -75,11 +72,8 @@ fn processor_number(entry: Entry) -> u32
     ensures { result ≡ processor_number entry }
 {
     match entry {
-        Entry::Fetch(i, _) => i,
-        Entry::WriteBack(i, _) => i,
-        Entry::Drop(i, _) => i,
-        Entry::Complete => 0,
-        Entry::CompleteByBroadcast => 0,
+        Entry::Fetch(i, _) | Entry::WriteBack(i, _) | Entry::Drop(i, _) => i,
+        Entry::Complete | Entry::CompleteByBroadcast => 0,
     }
 }
 
@@ -88,11 +82,8 @@ fn block_number(entry: Entry) -> u32
     ensures { result ≡ block_number entry }
 {
     match entry {
-        Entry::Fetch(_, b) => b.0,
-        Entry::WriteBack(_, b) => b.0,
-        Entry::Drop(_, b) => b.0,
-        Entry::Complete => 0,
-        Entry::CompleteByBroadcast => 0,
+        Entry::Fetch(_, b) | Entry::WriteBack(_, b) | Entry::Drop(_, b) => b.0,
+        Entry::Complete | Entry::CompleteByBroadcast => 0,
     }
 }
 

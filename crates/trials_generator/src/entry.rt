@@ -9,7 +9,10 @@ fn generate_part(cells: &mut [u32], setup: Setup, seed: u32, n: u32, first: u32)
     let e = sum(first, n) as usize;
     if a <= e {
         if e <= cells.len() {
-            return host_generator::generate(setup, seed, &mut cells[a..e]);
+            return match generator::generate(setup, seed, &mut cells[a..e]) {
+                Ok(()) => 0,
+                Err(refusal) => refusal.number(),
+            };
         }
     }
     u32::MAX

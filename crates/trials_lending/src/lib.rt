@@ -80,9 +80,9 @@ pub struct Generated {
 pub fn generate_array(setup: Setup, seed: u32, mut requests: [Request; REQUESTS]) -> Generated
     ensures { (result.refusal ≡ generate_refusal setup seed (length requests)) × (result.requests ≡ generated setup seed requests) }
 {
-    let refusal = generator::generate(setup, seed, &mut requests);
-    Generated {
-        refusal: refusal,
-        requests: requests,
-    }
+    let refusal = match generator::generate(setup, seed, &mut requests) {
+        Ok(()) => 0,
+        Err(refusal) => refusal.number(),
+    };
+    Generated { refusal, requests }
 }

@@ -41,7 +41,10 @@ fn by_records(cells: &mut Cells, setup: Setup, seed: u32, requests: [Request; RE
 
 fn by_numbers(cells: &mut Cells, setup: Setup, seed: u32, requests: [Request; REQUESTS]) {
     let mut list = numbers::of_requests(requests);
-    let refusal = host_generator::generate(setup, seed, &mut list);
+    let refusal = match generator::generate(setup, seed, &mut list) {
+        Ok(()) => 0,
+        Err(refusal) => refusal.number(),
+    };
     sides::lay_answer(cells, sides::NUMBERS, refusal, 0, 0, 0);
     sides::lay_list(cells, sides::NUMBERS, list);
 }

@@ -1,50 +1,42 @@
--- By the laws of `proofs/Loop.antt`: `begin` and `turn` answer what the definitions say.
-use Rattle.std.proofs.Common.{◌-◌, ◌<◌, length, sym, subst, arith}
-use Rattle.std.proofs.Math.ListN.{set}
-use Rattle.generator_steps.specs.declared.Generation.{Generation}
-use Rattle.generator.proofs.Loop.{Inv, inv-start, inv-fits, inv-within, inv-turn, inv-falls, inv-end}
+-- A refusal leaves the list; else each turn stores one request more.
+use Rattle.std.proofs.Common.{◌≡◌, ◌∙◌, ◌<◌, sym, ap, refl, length, arith}
+use Rattle.std.proofs.Math.ListN.{length-set}
+use Rattle.protocol_types.specs.Refusals.{no_refusal}
+use Rattle.protocol.proofs.Generator.{workload-zero}
+use Rattle.generator.specs.Lists.{list_refusal}
+use Rattle.generator.proofs.Passed.{goes_through, refused-stays, all-stored, all_drawn, last-drawn, one_more}
 use Rattle.generator.proofs.generate.Goals as goal
 
-pub loop-p-init : goal.loop-p-init
-loop-p-init c =
-    let a = c.args in
-    subst (λ (p : Generation). Inv a.setup a.seed a.list.now p a.list.now) (sym c.begin-p.ensures) (inv-start a.setup a.seed a.list.now)
+pub returns-in_err-check-clause-list : goal.returns-in_err-check-clause-list
+returns-in_err-check-clause-list g c =
+    refused-stays _ _ _ _ _ _ _ (c.in_err-check.ensures ∙ rw (c.is_whole-whole.ensures, c.count-count.ensures))
 
-pub offset_bounds-list-p : goal.offset_bounds-list-p
-offset_bounds-list-p c =
-    let a = c.args in
-    let h = inv-within a.setup a.seed a.list.now c.loop-p.p c.loop-p.list c.loop-p.invariant c.loop-p-test.true in
-    omega arith
+pub loop-i-init : goal.loop-i-init
+loop-i-init g c = record { front = rw (workload-zero c.args.setup c.args.seed); drawn = refl; room = sym c.count-count.ensures }
 
-pub bounds-list-p : goal.bounds-list-p
-bounds-list-p c =
-    let a = c.args in
-    let h = inv-within a.setup a.seed a.list.now c.loop-p.p c.loop-p.list c.loop-p.invariant c.loop-p-test.true in
-    omega arith
+pub draw_request-requires : goal.draw_request-requires
+draw_request-requires g c = (goes_through _ _ _ _ (sym c.in_ok-check.ensures)).fits
 
-pub turn-p-requires : goal.turn-p-requires
-turn-p-requires c =
-    let a = c.args in
-    let p = c.loop-p.p in
-    let list = c.loop-p.list in
-    (inv-fits a.setup a.seed a.list.now p list c.loop-p.invariant c.loop-p-test.true, inv-within a.setup a.seed a.list.now p list c.loop-p.invariant c.loop-p-test.true)
+pub loop-i-preserved : goal.loop-i-preserved
+loop-i-preserved g c =
+    let x = c.loop-i.x in
+    let i = c.loop-i.i in
+    let list = c.loop-i.list in
+    let q = c.draw_request.result in
+    let drawn = all_drawn _ x _ _ _ q c.next_draw-first.ensures c.next_draw-second.ensures c.next_draw-third.ensures c.draw_request.ensures in
+    let within : i < length (g.C.Stores.records list) = omega (arith, c.loop-i-test.true, c.loop-i.invariant.room) in
+    record {
+      front = one_more _ _ _ _ i x list _ q c.loop-i.invariant.front c.loop-i.invariant.drawn drawn c.store.ensures;
+      drawn = last-drawn _ i x _ _ _ c.loop-i.invariant.drawn c.next_draw-first.ensures c.next_draw-second.ensures c.next_draw-third.ensures;
+      room =
+          ap (λ l. length (g.C.Stores.records l)) c.store.ensures ∙ ap length (g.met.C.Stores.reads_back list i q within)
+          ∙ length-set (g.C.Stores.records list) i q ∙ c.loop-i.invariant.room;
+    }
 
-pub loop-p-smaller : goal.loop-p-smaller
-loop-p-smaller c =
+pub returns-clause-list : goal.returns-clause-list
+returns-clause-list g c =
     let a = c.args in
-    let p = c.loop-p.p in
-    subst (λ (q : Generation). length a.list.now - q.at < length a.list.now - p.at) (sym c.turn-p.ensures)
-    (inv-falls a.setup a.seed a.list.now p c.loop-p.list c.loop-p.invariant c.loop-p-test.true)
-
-pub loop-p-preserved : goal.loop-p-preserved
-loop-p-preserved c =
-    let a = c.args in
-    let p = c.loop-p.p in
-    let list = c.loop-p.list in
-    subst (λ (q : Generation). Inv a.setup a.seed a.list.now q (set list p.at p.request)) (sym c.turn-p.ensures)
-    (inv-turn a.setup a.seed a.list.now p list c.loop-p.invariant c.loop-p-test.true)
-
-pub returns : goal.returns
-returns c =
-    let a = c.args in
-    inv-end a.setup a.seed a.list.now c.loop-p.p c.loop-p.list c.loop-p.invariant c.loop-p-test.false
+    let passed : list_refusal (g.C.Stores.whole a.list.now) a.setup a.seed (length (g.C.Stores.records a.list.now)) ≡ no_refusal =
+    sym (c.in_ok-check.ensures ∙ rw (c.is_whole-whole.ensures, c.count-count.ensures)) in
+    let all : c.loop-i.i ≡ length (g.C.Stores.records a.list.now) = omega (arith, c.count-count.ensures) in
+    c.loop-i.invariant.front ∙ rw all (all-stored _ g.C.Stores.records _ _ _ _ passed)

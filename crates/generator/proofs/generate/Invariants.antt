@@ -1,10 +1,13 @@
--- What stands after some requests, as `proofs/Loop.antt` says; the places that are left fall.
-use Rattle.std.proofs.Common.{◌-◌}
-use Rattle.generator.proofs.Loop.{Inv}
+-- The requests that were drawn stand at the front, and x is the last draw that they used.
+use Rattle.std.proofs.Common.{◌≡◌, length}
+use Rattle.protocol.specs.Generator.{workload}
+use Rattle.protocol.proofs.Generator.{draw_after}
+use Rattle.stored_lists.specs.Lists.{filled}
 use Rattle.generator.proofs.generate.Given as goal
 
-abbrev pub invariant-loop-p : goal.invariant-loop-p
-invariant-loop-p l = Inv l.setup l.seed l.fn.list l.p l.list
-
-abbrev pub decreases-loop-p : goal.decreases-loop-p
-decreases-loop-p l = l.count - l.p.at
+abbrev pub invariant-loop-i : goal.invariant-loop-i
+invariant-loop-i g l = record {
+  front : l.list ≡ filled g.C.Stores.stored l.fn.list (workload l.setup l.seed l.i);
+  drawn : l.x ≡ draw_after l.seed l.i;
+  room : length (g.C.Stores.records l.list) ≡ l.count;
+}

@@ -1,28 +1,21 @@
--- A list that is not whole is refused, and stays; and the order of the checks by example.
+-- A list that is not whole is refused; and the order of the checks by example.
 use Prim.Native.Nat.{ℕ}
 use mathlib.Core.Path.{◌≡◌, refl}
 use mathlib.Core.Logic.{◌≢◌}
-use mathlib.Core.Bool.{false}
-use mathlib.Core.List.{List, [], ◌∷◌}
+use mathlib.Core.List.{[], ◌∷◌}
 use native.Mathlib.Omega.{arith}
-use borrow.Author.Tests.{ne_eqb}
 use Rattle.protocol_types.specs.Refusals.{no_refusal, wrong_length}
 use Rattle.protocol_types.specs.Board.{sizes_in_range, prices_in_range, setup_refusal}
 use Rattle.protocol.specs.Generator.{generate_refusal}
 use Rattle.protocol_types.specs.declared.Setup.{Setup}
 use Rattle.protocol_types.proofs.Refusals.{neither-refuses}
-use Rattle.host_decoding.specs.Records.{request_width, whole, partial_refusal}
-use Rattle.host_generator.specs.Numbers.{generate_numbers_refusal, generated_numbers}
+use Rattle.host_decoding.specs.Records.{whole, partial_refusal}
+use Rattle.generator.specs.Numbers.{generate_numbers_refusal}
 
 -- it is not 0
 pub partial-refuses : (s : Setup) → partial_refusal s ≢ no_refusal
 unfolding partial_refusal
 partial-refuses s e = omega (arith, (neither-refuses (setup_refusal s) wrong_length e).1)
-
-pub partial-refused : (s : Setup) (seed : ℕ) (ns : List ℕ) → whole request_width ns ≡ false → (r : ℕ) → r ≡ partial_refusal s
-    → (r ≡ generate_numbers_refusal s seed ns) × (ns ≡ generated_numbers s seed ns)
-unfolding generated_numbers generate_numbers_refusal
-partial-refused s seed ns w r is-r = rw (w, is-r, ne_eqb (partial_refusal s) no_refusal (partial-refuses s)) (refl, refl)
 
 -- ---- the order, by example: 2 before 11, 10 before 2, and 11 once the list is whole
 

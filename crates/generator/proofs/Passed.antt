@@ -1,0 +1,86 @@
+-- What the checks let through, and what the list is then; a refusal leaves it as it was. Assumes nothing.
+use Prim.Native.Nat.{ℕ, ◌+◌}
+use native.Mathlib.Numerals.{add-one}
+use mathlib.Core.Path.{◌≡◌, refl, sym, ap, ◌∙◌}
+use mathlib.Core.Bool.{Bool, true, false}
+use mathlib.Core.Logic.{◌≢◌}
+use mathlib.Core.List.{List}
+use lib.ListN.{length}
+use borrow.Author.Tests.{ne_eqb}
+use Rattle.protocol_types.specs.Refusals.{no_refusal, number}
+use Rattle.protocol_types.specs.declared.Request.{Request}
+use Rattle.protocol_types.specs.declared.Refusal.{Refusal}
+use Rattle.protocol_types.specs.declared.Refusal.TheVariants.{SetupOutOfRange, WrongLength, NoSuchProcessor, NoSuchVariable, TooMany, MalformedLine, UnknownLabel, NoSuchBlock, BroadcastWithoutWrite, PriceOutOfRange, SeedZero, NotSearchable, UnsoundTables, ImpossibleAccount, AccountFull, LineInUse, BlockNotHeld, DropOfMarked, NoRequestLeft, CompletionNotHeld, RequestsLeft, CacheNotEmpty}
+use Rattle.stored_lists.specs.Lists.{filled}
+use Rattle.stored_lists.proofs.Filled.{filled-more}
+use Rattle.protocol_types.specs.Board.{Fits}
+use Rattle.protocol_types.proofs.Board.{setup-fits}
+use Rattle.protocol.specs.Generator.{xorshift, request_drawn, workload, request_after, generate_refusal}
+use Rattle.protocol.proofs.Generator.{length-workload, workload-more, draw_after, draw_after-suc, generate-passed}
+use Rattle.protocol_types.specs.declared.Setup.{Setup}
+use Rattle.generator.specs.Lists.{list_refusal, list_generated}
+use Rattle.generator.proofs.Refused.{partial-refuses}
+
+pub record Through (w : Bool) (s : Setup) (seed n : ℕ) : Type 0 where
+  pub is_whole : w ≡ true
+  pub accepted : generate_refusal s seed n ≡ no_refusal
+  pub fits : Fits s
+
+pub goes_through : (w : Bool) (s : Setup) (seed n : ℕ) → list_refusal w s seed n ≡ no_refusal → Through w s seed n
+unfolding list_refusal
+goes_through true s seed n e = record { is_whole = refl; accepted = e; fits = setup-fits s (generate-passed s seed n e).accepted }
+goes_through false s seed n e = absurd (partial-refuses s e)
+
+-- no refusal has the number 0
+number-refuses : (e : Refusal) → number e ≢ no_refusal
+number-refuses SetupOutOfRange z = cc
+number-refuses WrongLength z = cc
+number-refuses NoSuchProcessor z = cc
+number-refuses NoSuchVariable z = cc
+number-refuses TooMany z = cc
+number-refuses MalformedLine z = cc
+number-refuses UnknownLabel z = cc
+number-refuses NoSuchBlock z = cc
+number-refuses BroadcastWithoutWrite z = cc
+number-refuses PriceOutOfRange z = cc
+number-refuses SeedZero z = cc
+number-refuses NotSearchable z = cc
+number-refuses UnsoundTables z = cc
+number-refuses ImpossibleAccount z = cc
+number-refuses AccountFull z = cc
+number-refuses LineInUse z = cc
+number-refuses BlockNotHeld z = cc
+number-refuses DropOfMarked z = cc
+number-refuses NoRequestLeft z = cc
+number-refuses CompletionNotHeld z = cc
+number-refuses RequestsLeft z = cc
+number-refuses CacheNotEmpty z = cc
+
+-- a refusal leaves the list as it was
+pub refused-stays : {A : Type 0} (whole : List A → Bool) (records : List A → List Request) (stored : List A → ℕ → Request → List A) (s : Setup) (seed : ℕ) (l : List A)
+    (e : Refusal) → number e ≡ list_refusal (whole l) s seed (length (records l)) → l ≡ list_generated whole records stored s seed l
+unfolding list_generated
+refused-stays whole records stored s seed l e is-e =
+    rw (ne_eqb (list_refusal (whole l) s seed (length (records l))) no_refusal (λ z. number-refuses e (is-e ∙ z)))
+
+-- without one each request is stored
+pub all-stored : {A : Type 0} (whole : List A → Bool) (records : List A → List Request) (stored : List A → ℕ → Request → List A) (s : Setup) (seed : ℕ) (l : List A)
+    → list_refusal (whole l) s seed (length (records l)) ≡ no_refusal → filled stored l (workload s seed (length (records l))) ≡ list_generated whole records stored s seed l
+unfolding list_generated
+all-stored whole records stored s seed l e = rw e
+
+-- ---- the loop
+
+pub all_drawn : (s : Setup) (x a b d : ℕ) (q : Request) → a ≡ xorshift x → b ≡ xorshift a → d ≡ xorshift b → q ≡ request_drawn s a b d → q ≡ request_after s x
+unfolding request_after
+all_drawn s x a b d q is-a is-b is-d is-q = rw (is-q, is-d, is-b, is-a)
+
+pub last-drawn : (seed k x a b d : ℕ) → x ≡ draw_after seed k → a ≡ xorshift x → b ≡ xorshift a → d ≡ xorshift b → d ≡ draw_after seed (k + 1)
+last-drawn seed k x a b d is-x is-a is-b is-d = rw (is-d, is-b, is-a, is-x, add-one k) (sym (draw_after-suc seed k))
+
+pub one_more : {A : Type 0} (stored : List A → ℕ → Request → List A) (lent : List A) (s : Setup) (seed k x : ℕ) (l m : List A) (q : Request)
+    → l ≡ filled stored lent (workload s seed k) → x ≡ draw_after seed k → q ≡ request_after s x → m ≡ stored l k q → m ≡ filled stored lent (workload s seed (k + 1))
+one_more stored lent s seed k x l m q is-l is-x is-q is-m =
+    let r : Request = request_after s (draw_after seed k) in
+    rw (is-m, is-q, is-x, is-l, add-one k, workload-more s seed k)
+    (ap (λ (i : ℕ). stored (filled stored lent (workload s seed k)) i r) (sym (length-workload s seed k)) ∙ sym (filled-more stored lent (workload s seed k) r))
