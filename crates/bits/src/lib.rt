@@ -1,7 +1,7 @@
 // The bits of a byte: one set or cleared, and the lowest found and taken away.
 #![tactic(auto)]
 
-ghost use Rattle.std.specs.Prelude.{◌≡◌, ◌^◌, ◌<◌};
+ghost use Rattle.std.specs.Prelude.{◌≡◌, ◌^◌, ◌<◌, unwrap_or, MatchOption};
 ghost use Rattle.protocol_types.specs.Lists.{first};
 ghost use Rattle.protocol_types.specs.Bits.{bit_at};
 ghost use Rattle.bits.specs.Bits.{with_bit, without_bit, without_lowest};
@@ -30,11 +30,15 @@ pub fn without_bit(mask: u8, i: u8) -> u8
     mask & !bit(i)
 }
 
-// The lowest set bit; 8 if none is set.
-pub fn lowest(mask: u8) -> u8
-    ensures { result ≡ first 8 (bit_at mask) }
+// The lowest set bit.
+pub fn lowest(mask: u8) -> Option<u8>
+    ensures value { unwrap_or result 8 ≡ first 8 (bit_at mask) }
+    ensures some { MatchOption result (mask ≡ 0) (λ _. 0 < mask) }
 {
-    u8::trailing_zeros(mask) as u8
+    if mask == 0 {
+        return None;
+    }
+    Some(mask.trailing_zeros() as u8)
 }
 
 // The byte without its lowest set bit.

@@ -22,7 +22,13 @@ use Rattle.bits.specs.Bits.{without_bit}
 use Rattle.protocol_types.proofs.Search.{search-started, search-found, search-passed, search-ended}
 use Rattle.bits.proofs.Bytes.{without-mask}
 use Rattle.bits.proofs.Visits.{Visited, Steady, Turn, visits-end}
+use Rattle.std.specs.Prelude.{Option, Some, None, is_some, unwrap_or, IfSome}
 use Rattle.engine_holders.specs.Searches.{other_holds, other_holder, weakest_below, weaker, owns, owner_from}
+
+-- a number below n was found, or none
+pub some-below : (r : Option ℕ) (n : ℕ) → IfSome r (λ j. j < n) → is_some r ≡ ltb (unwrap_or r n) n
+some-below None n h = sym (le-ltb n n (omega arith))
+some-below (Some j) n h = sym (lt-ltb j n h)
 
 module _ (s : Setup) (t : Tables) (b : Block) where
   pub other-holder-is : (i : ℕ) → first s.processors (other_holds s t i b) ≡ other_holder s t i b

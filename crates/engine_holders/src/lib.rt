@@ -1,7 +1,7 @@
 // Who holds a block: the searches over processors, those over the set bits of a block's mask (document 02, P7), and the update of its copies.
 #![tactic(auto)]
 
-ghost use Rattle.std.specs.Prelude.{◌≡◌, List, ℕ, ◌^◌, ◌≤◌, ◌<◌, length};
+ghost use Rattle.std.specs.Prelude.{◌≡◌, List, ℕ, ◌^◌, ◌<◌, length, unwrap_or, IfSome};
 ghost use Rattle.protocol_types.specs.Board.{Fits};
 ghost use Rattle.protocol.specs.Tables.{holds_at, holds, sharing};
 ghost use Rattle.protocol.specs.Masks.{holders};
@@ -18,10 +18,7 @@ fn line_holds(k: usize, block: Block, blocks: &[u32], counters: &[u32]) -> bool
     requires { (k < length blocks.now) × (k < length counters.now) }
     ensures { (m w g : List ℕ) → result ≡ holds_at (lent blocks.now counters.now m w g) k block }
 {
-    if blocks[k] != block.0 {
-        return false;
-    }
-    counters[k] > 0
+    blocks[k] == block.0 && counters[k] > 0
 }
 
 // Whether a processor holds a block.
@@ -48,29 +45,30 @@ fn other_holds(
     requires per_slot { PerSlot setup blocks.now × PerSlot setup counters.now }
     ensures { (m w g : List ℕ) → result ≡ other_holds setup (lent blocks.now counters.now m w g) processor block j }
 {
-    if j == processor {
-        return false;
-    }
-    holds(setup, j, block, blocks, counters)
+    j != processor && holds(setup, j, block, blocks, counters)
 }
 
-// The lowest-numbered other holder; the number of processors where there is none.
+// The lowest-numbered other holder.
 // It counts processors in a byte, as the search for the payer does (document 02, P3). A byte is enough, because the count ends at N and N is at most 8
-// (`few-processors` of `Fits`): `overflow_add-other` in proofs/other_holder proves that the next number always fits.
-fn other_holder(setup: Setup, processor: u32, block: Block, blocks: &[u32], counters: &[u32]) -> u32
+// (`few-processors` of `Fits`): `overflow_cast-other-end` in proofs/other_holder proves that N always fits.
+fn other_holder(
+    setup: Setup,
+    processor: u32,
+    block: Block,
+    blocks: &[u32],
+    counters: &[u32],
+) -> Option<u32>
     requires fits { Fits setup }
     requires per_slot { PerSlot setup blocks.now × PerSlot setup counters.now }
-    ensures { (m w g : List ℕ) → result ≡ other_holder setup (lent blocks.now counters.now m w g) processor block }
+    ensures value { (m w g : List ℕ) → unwrap_or result setup.processors ≡ other_holder setup (lent blocks.now counters.now m w g) processor block }
+    ensures in_range { IfSome result (λ j. j < setup.processors) }
 {
-    let n = setup.processors;
-    let mut other: u8 = 0;
-    while (other as u32) < n {
+    for other in 0..setup.processors as u8 {
         if other_holds(setup, processor, block, other as u32, blocks, counters) {
-            break;
+            return Some(other as u32);
         }
-        other += 1;
     }
-    other as u32
+    None // the count has come to N
 }
 
 // Whether another processor holds a block.
@@ -79,64 +77,65 @@ pub fn shares(setup: Setup, processor: u32, block: Block, blocks: &[u32], counte
     requires per_slot { PerSlot setup blocks.now × PerSlot setup counters.now }
     ensures { (m w g : List ℕ) → result ≡ sharing setup (lent blocks.now counters.now m w g) processor block }
 {
-    other_holder(setup, processor, block, blocks, counters) < setup.processors
+    other_holder(setup, processor, block, blocks, counters).is_some()
 }
 
-// Of two processors the one whose line for a block has the smaller counter, `weakest` if they are equal; j where `weakest` is none (the number of processors).
-fn weaker(setup: Setup, block: Block, weakest: u32, j: u32, counters: &[u32]) -> u32
+// Of two processors the one whose line for a block has the smaller counter, `weakest` if they are equal; j where `weakest` is none.
+fn weaker(setup: Setup, block: Block, weakest: Option<u32>, j: u32, counters: &[u32]) -> u32
     requires fits { Fits setup }
-    requires weakest_le_processors { (weakest ≤ setup.processors) × (j < setup.processors) }
+    requires weakest_lt_processors { IfSome weakest (λ k. k < setup.processors) × (j < setup.processors) }
     requires per_slot { PerSlot setup counters.now }
-    ensures value { (b m w g : List ℕ) → result ≡ weaker setup (lent b counters.now m w g) block weakest j }
-    ensures upper_bound { result ≤ setup.processors }
+    ensures value { (b m w g : List ℕ) → result ≡ weaker setup (lent b counters.now m w g) block (unwrap_or weakest setup.processors) j }
+    ensures upper_bound { result < setup.processors }
 {
-    if weakest == setup.processors {
+    let Some(k) = weakest else {
         return j;
-    }
-    if counters[setup.slot(weakest, block)] <= counters[setup.slot(j, block)] {
-        return weakest;
+    };
+    if counters[setup.slot(k, block)] <= counters[setup.slot(j, block)] {
+        return k;
     }
     j
 }
 
-// The payer of a write: the other holder with the smallest counter, the lowest processor among equals; the number of processors where there is none.
+// The payer of a write: the other holder with the smallest counter, the lowest processor among equals.
 // The search visits the set bits of the mask only, from which the writer's is taken first, and counts processors in a byte (document 02, P3), which is
 // enough for the number of a bit.
-pub fn payer(setup: Setup, processor: u32, block: Block, mask: u8, counters: &[u32]) -> u32
+pub fn payer(setup: Setup, processor: u32, block: Block, mask: u8, counters: &[u32]) -> Option<u32>
     requires fits { Fits setup }
     requires processor_lt_processors { processor < setup.processors }
     requires mask_bound { mask < 2 ^ setup.processors }
     requires per_slot { PerSlot setup counters.now }
-    ensures { (b m w g : List ℕ) → mask ≡ holders setup (lent b counters.now m w g) block
-        → result ≡ payer setup (lent b counters.now m w g) processor block }
+    ensures value { (b m w g : List ℕ) → mask ≡ holders setup (lent b counters.now m w g) block
+        → unwrap_or result setup.processors ≡ payer setup (lent b counters.now m w g) processor block }
+    ensures in_range { IfSome result (λ j. j < setup.processors) }
 {
-    let mut weakest = setup.processors;
+    let mut weakest = None;
     let mut others = without_bit(mask, processor as u8);
-    while others != 0 {
-        let j = lowest(others);
-        weakest = weaker(setup, block, weakest, j as u32, counters);
+    while let Some(j) = lowest(others) {
+        weakest = Some(weaker(setup, block, weakest, j as u32, counters));
         others = without_lowest(others);
     }
     weakest
 }
 
-// The processor that has a block marked; the number of processors where none has.
-pub fn owner(setup: Setup, block: Block, mask: u8, marks: &[u32]) -> u32
+// The processor that has a block marked.
+pub fn owner(setup: Setup, block: Block, mask: u8, marks: &[u32]) -> Option<u32>
     requires fits { Fits setup }
     requires mask_bound { mask < 2 ^ setup.processors }
     requires per_slot { PerSlot setup marks.now }
-    ensures { (b c w g : List ℕ) → mask ≡ holders setup (lent b c marks.now w g) block
-        → result ≡ owner setup (lent b c marks.now w g) block }
+    ensures value { (b c w g : List ℕ) → mask ≡ holders setup (lent b c marks.now w g) block
+        → unwrap_or result setup.processors ≡ owner setup (lent b c marks.now w g) block }
+    ensures in_range { IfSome result (λ j. j < setup.processors) }
 {
     let mut holders = mask;
-    while holders != 0 {
-        let j = lowest(holders) as u32;
+    while let Some(j) = lowest(holders) {
+        let j = j as u32;
         if marks[setup.slot(j, block)] == 1 {
-            return j;
+            return Some(j);
         }
         holders = without_lowest(holders);
     }
-    setup.processors
+    None
 }
 
 // Every copy of a block takes a word.
@@ -157,8 +156,8 @@ pub fn update_copies(
         ≡ updated_copies setup (lent b c m words.old g) block offset value setup.processors }
 {
     let mut copies = mask;
-    while copies != 0 {
-        let k = setup.slot(lowest(copies) as u32, block);
+    while let Some(j) = lowest(copies) {
+        let k = setup.slot(j as u32, block);
         set_word(setup, k, offset, value, words);
         copies = without_lowest(copies);
     }

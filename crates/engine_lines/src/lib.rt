@@ -31,11 +31,9 @@ fn release(
     ensures { (c : List ℕ) → mask ≡ holders setup (lent blocks.now c marks.old words.now memory.old) block
         → lent blocks.now c marks.new words.now memory.new ≡ released setup (lent blocks.now c marks.old words.now memory.old) block }
 {
-    let j = owner(setup, block, mask, marks);
-    if setup.processors <= j {
-        return;
+    if let Some(j) = owner(setup, block, mask, marks) {
+        write_back(setup, setup.slot(j, block), blocks, marks, words, memory);
     }
-    write_back(setup, setup.slot(j, block), blocks, marks, words, memory);
 }
 
 // Slot k gets a block, with main memory's words.

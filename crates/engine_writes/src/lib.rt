@@ -126,11 +126,10 @@ pub fn write(
     let k = setup.slot(processor, block);
     let b = block.0 as usize;
     let mask = masks[b];
-    let j = payer(setup, processor, block, mask, counters);
-    if setup.processors <= j {
+    let Some(j) = payer(setup, processor, block, mask, counters) else {
         write_alone(setup, k, offset, value, counters, marks, words);
         return 0;
-    }
+    };
     let emptied = write_shared(
         setup,
         k,

@@ -6,8 +6,8 @@ use Rattle.engine_holders.proofs.line_holds.Goals as goal
 
 pub returns-then-blocks-k : goal.returns-then-blocks-k
 unfolding holds_at
-returns-then-blocks-k c m w g = simp (ne_eqb _ _ c.if-blocks-k.true, and-false)
+returns-then-blocks-k c m w g = simp (eq-eqb _ _ c.if-blocks-k.true, and-true)
 
-pub returns : goal.returns
+pub returns-else-blocks-k : goal.returns-else-blocks-k
 unfolding holds_at
-returns c m w g = simp (eq-eqb _ _ c.if-blocks-k.false, and-true)
+returns-else-blocks-k c m w g = simp (ne_eqb _ _ c.if-blocks-k.false, and-false)

@@ -1,4 +1,4 @@
-use Prim.Native.Nat.{ℕ, ◌≤◌, ◌-◌}
+use Prim.Native.Nat.{ℕ, ◌-◌}
 use mathlib.Core.Path.{◌≡◌}
 use mathlib.Core.List.{List}
 use Rattle.protocol_types.specs.Lists.{first_from}
@@ -8,9 +8,6 @@ use Rattle.engine_holders.proofs.other_holder.Given as goal
 
 abbrev pub invariant-loop-other : goal.invariant-loop-other
 invariant-loop-other l =
-    (l.other ≤ l.setup.processors)
-    × ((m w g : List ℕ) → first_from (l.setup.processors - l.other) l.other (other_holds l.setup (tables l.blocks l.counters m w g) l.processor l.block) ≡ other_holder l.setup (tables l.blocks l.counters m w g) l.processor l.block)
-
-abbrev pub decreases-loop-other : goal.decreases-loop-other
-decreases-loop-other l =
-    l.setup.processors - l.other
+    (m w g : List ℕ)
+    → first_from (l.setup.processors - l.other) l.other (other_holds l.setup (tables l.blocks l.counters m w g) l.processor l.block)
+    ≡ other_holder l.setup (tables l.blocks l.counters m w g) l.processor l.block

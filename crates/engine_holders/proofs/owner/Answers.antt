@@ -6,8 +6,8 @@ use Rattle.bits.proofs.Visits.{visits-start, turn}
 use Rattle.engine_holders.proofs.Search.{owner-search-started, owner-search-found, owner-search-passed, owner-search-ended}
 use Rattle.engine_holders.proofs.owner.Goals as goal
 
-pub loop-holders-init : goal.loop-holders-init
-loop-holders-init c =
+pub loop-j-init : goal.loop-j-init
+loop-j-init c =
     let a = c.args in (
       0,
       visits-start a.setup.processors a.mask c.requires.fits.few-processors c.requires.mask_bound,
@@ -16,34 +16,38 @@ loop-holders-init c =
 
 pub slot-requires : goal.slot-requires
 slot-requires c =
-    let t = turn c.loop-holders.invariant.1 (omega arith) c.lowest-j.ensures in record {
+    let t = turn c.loop-j.invariant.1 (omega (arith, c.in-Some.ensures.some)) c.in-Some.ensures.value in record {
       fits = c.requires.fits;
       processor_lt_processors = t.below;
     }
 
 pub returns-then-marks-slot-eq1 : goal.returns-then-marks-slot-eq1
-returns-then-marks-slot-eq1 c b k w g e =
+returns-then-marks-slot-eq1 c =
     let a = c.args in
-    let t = turn c.loop-holders.invariant.1 (omega arith) c.lowest-j.ensures in
-    owner-search-found a.setup (tables b k a.marks.now w g) a.block e (c.loop-holders.invariant.2 b k w g e) t
-    (rw c.slot.ensures.value at c.if-marks-slot-eq1.true)
+    let t = turn c.loop-j.invariant.1 (omega (arith, c.in-Some.ensures.some)) c.in-Some.ensures.value in record {
+      value = λ b k w g e. owner-search-found a.setup (tables b k a.marks.now w g) a.block e (c.loop-j.invariant.2 b k w g e) t
+          (rw c.slot.ensures.value at c.if-marks-slot-eq1.true);
+      in_range = t.below;
+    }
 
-pub loop-holders-smaller : goal.loop-holders-smaller
-loop-holders-smaller c =
-    let t = turn c.loop-holders.invariant.1 (omega arith) c.lowest-j.ensures in
+pub loop-j-smaller : goal.loop-j-smaller
+loop-j-smaller c =
+    let t = turn c.loop-j.invariant.1 (omega (arith, c.in-Some.ensures.some)) c.in-Some.ensures.value in
     rw c.without_lowest-holders.ensures t.less
 
-pub loop-holders-preserved : goal.loop-holders-preserved
-loop-holders-preserved c =
+pub loop-j-preserved : goal.loop-j-preserved
+loop-j-preserved c =
     let a = c.args in
-    let t = turn c.loop-holders.invariant.1 (omega arith) c.lowest-j.ensures in (
-      suc c.lowest-j.result,
+    let t = turn c.loop-j.invariant.1 (omega (arith, c.in-Some.ensures.some)) c.in-Some.ensures.value in (
+      suc c.in-Some.j,
       rw c.without_lowest-holders.ensures t.next,
-      λ b k w g e. owner-search-passed a.setup (tables b k a.marks.now w g) a.block e (c.loop-holders.invariant.2 b k w g e) t
+      λ b k w g e. owner-search-passed a.setup (tables b k a.marks.now w g) a.block e (c.loop-j.invariant.2 b k w g e) t
           (rw c.slot.ensures.value at c.if-marks-slot-eq1.false),
     )
 
 pub returns : goal.returns
-returns c b k w g e =
-    let a = c.args in
-    owner-search-ended a.setup (tables b k a.marks.now w g) a.block e (c.loop-holders.invariant.2 b k w g e) c.loop-holders.invariant.1 (omega arith)
+returns c =
+    let a = c.args in record {
+      value = λ b k w g e. owner-search-ended a.setup (tables b k a.marks.now w g) a.block e (c.loop-j.invariant.2 b k w g e) c.loop-j.invariant.1 (omega (arith, c.in_default.ensures.some));
+      in_range = tt;
+    }

@@ -15,44 +15,44 @@ use Rattle.engine_holders.proofs.payer.Goals as goal
 visits-others : (n m i others : ℕ) → n ≤ 8 → m < 2 ^ n → others ≡ without_bit m i → Visited n others 0 others
 visits-others n m i others few bound e = visits-start n others few (rw e (without-below n few m i bound))
 
-pub loop-others-init : goal.loop-others-init
-loop-others-init c =
+pub loop-j-init : goal.loop-j-init
+loop-j-init c =
     let a = c.args in
     let few = c.requires.fits.few-processors in (
       0,
       visits-others a.setup.processors a.mask a.processor _ few c.requires.mask_bound (search rules),
-      omega arith,
+      tt,
       λ b m w g e. payer-search-started a.setup (tables b a.counters.now m w g) a.block a.processor,
       search rules,
     )
 
-pub weaker-weakest-requires : goal.weaker-weakest-requires
-weaker-weakest-requires c =
-    let t = turn c.loop-others.invariant.1 (omega arith) c.lowest-j.ensures in record {
-      fits = c.requires.fits;
-      weakest_le_processors = (c.loop-others.invariant.2, t.below);
-      per_slot = c.requires.per_slot;
-    }
+pub weaker-requires-clause-weakest_lt_processors : goal.weaker-requires-clause-weakest_lt_processors
+weaker-requires-clause-weakest_lt_processors c =
+    let t = turn c.loop-j.invariant.1 (omega (arith, c.in-Some.ensures.some)) c.in-Some.ensures.value in
+    (c.loop-j.invariant.2, t.below)
 
-pub loop-others-smaller : goal.loop-others-smaller
-loop-others-smaller c =
-    let t = turn c.loop-others.invariant.1 (omega arith) c.lowest-j.ensures in
+pub loop-j-smaller : goal.loop-j-smaller
+loop-j-smaller c =
+    let t = turn c.loop-j.invariant.1 (omega (arith, c.in-Some.ensures.some)) c.in-Some.ensures.value in
     rw c.without_lowest-others.ensures t.less
 
-pub loop-others-preserved : goal.loop-others-preserved
-loop-others-preserved c =
+pub loop-j-preserved : goal.loop-j-preserved
+loop-j-preserved c =
     let a = c.args in
-    let t = turn c.loop-others.invariant.1 (omega arith) c.lowest-j.ensures in (
-      suc c.lowest-j.result,
+    let t = turn c.loop-j.invariant.1 (omega (arith, c.in-Some.ensures.some)) c.in-Some.ensures.value in (
+      suc c.in-Some.j,
       rw c.without_lowest-others.ensures t.next,
-      c.weaker-weakest.ensures.upper_bound,
+      c.weaker.ensures.upper_bound,
       λ b m w g e. payer-search-next a.setup (tables b a.counters.now m w g) a.block e c.requires.fits.few-processors a.processor
-          c.loop-others.invariant.4 (c.loop-others.invariant.3 b m w g e) t (c.weaker-weakest.ensures.value b m w g),
-      c.loop-others.invariant.4,
+          c.loop-j.invariant.4 (c.loop-j.invariant.3 b m w g e) t (c.weaker.ensures.value b m w g),
+      c.loop-j.invariant.4,
     )
 
 pub returns : goal.returns
-returns c b m w g e =
-    let a = c.args in
-    payer-search-ended a.setup (tables b a.counters.now m w g) a.block e c.requires.fits.few-processors a.processor
-    c.loop-others.invariant.4 (c.loop-others.invariant.3 b m w g e) c.loop-others.invariant.1 (omega arith)
+returns c = record {
+  value = λ b m w g e.
+      let a = c.args in
+      payer-search-ended a.setup (tables b a.counters.now m w g) a.block e c.requires.fits.few-processors a.processor
+      c.loop-j.invariant.4 (c.loop-j.invariant.3 b m w g e) c.loop-j.invariant.1 (omega (arith, c.in_default.ensures.some));
+  in_range = c.loop-j.invariant.2;
+}

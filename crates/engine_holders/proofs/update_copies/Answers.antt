@@ -10,14 +10,14 @@ use Rattle.bits.proofs.Visits.{visits-start, turn}
 use Rattle.engine_holders.proofs.Search.{copies-next, copies-ended}
 use Rattle.engine_holders.proofs.update_copies.Goals as goal
 
-pub loop-copies-init : goal.loop-copies-init
-loop-copies-init c =
+pub loop-j-init : goal.loop-j-init
+loop-j-init c =
     let a = c.args in
     (0, visits-start a.setup.processors a.mask c.requires.fits.few-processors c.requires.mask_bound, refl, λ b k m g e. refl)
 
 pub slot-k-requires : goal.slot-k-requires
 slot-k-requires c =
-    let t = turn c.loop-copies.invariant.1 (omega arith) c.lowest.ensures in record {
+    let t = turn c.loop-j.invariant.1 (omega (arith, c.in-Some.ensures.some)) c.in-Some.ensures.value in record {
       fits = c.requires.fits;
       processor_lt_processors = t.below;
     }
@@ -25,28 +25,28 @@ slot-k-requires c =
 pub set_word-requires : goal.set_word-requires
 set_word-requires c =
     let a = c.args in
-    omega (arith, word_index-lt a.setup c.requires.fits c.slot-k.result (slots a.setup) a.offset c.slot-k.ensures.within c.requires.offset_lt_words, c.loop-copies.invariant.2)
+    omega (arith, word_index-lt a.setup c.requires.fits c.slot-k.result (slots a.setup) a.offset c.slot-k.ensures.within c.requires.offset_lt_words, c.loop-j.invariant.2)
 
-pub loop-copies-smaller : goal.loop-copies-smaller
-loop-copies-smaller c =
-    let t = turn c.loop-copies.invariant.1 (omega arith) c.lowest.ensures in
+pub loop-j-smaller : goal.loop-j-smaller
+loop-j-smaller c =
+    let t = turn c.loop-j.invariant.1 (omega (arith, c.in-Some.ensures.some)) c.in-Some.ensures.value in
     rw c.without_lowest-copies.ensures t.less
 
 pub shape_of-words : goal.shape_of-words
-shape_of-words c = c.loop-copies.invariant.2
+shape_of-words c = c.loop-j.invariant.2
 
 pub returns : goal.returns
 returns c b k m g e =
     let a = c.args in
-    copies-ended a.setup (tables b k m a.words.now g) a.block e a.offset a.value (c.loop-copies.invariant.3 b k m g e) c.loop-copies.invariant.1 (omega arith)
+    copies-ended a.setup (tables b k m a.words.now g) a.block e a.offset a.value (c.loop-j.invariant.3 b k m g e) c.loop-j.invariant.1 (omega (arith, c.in_default.ensures.some))
 
-pub loop-copies-preserved : goal.loop-copies-preserved
-loop-copies-preserved c =
+pub loop-j-preserved : goal.loop-j-preserved
+loop-j-preserved c =
     let a = c.args in
-    let t = turn c.loop-copies.invariant.1 (omega arith) c.lowest.ensures in (
-      suc c.lowest.result,
+    let t = turn c.loop-j.invariant.1 (omega (arith, c.in-Some.ensures.some)) c.in-Some.ensures.value in (
+      suc c.in-Some.j,
       rw c.without_lowest-copies.ensures t.next,
-      c.set_word.auto.words ∙ c.loop-copies.invariant.2,
+      c.set_word.auto.words ∙ c.loop-j.invariant.2,
       λ b k m g e. rw (c.set_word.ensures, c.slot-k.ensures.value)
-          (copies-next a.setup (tables b k m a.words.now g) a.block e a.offset a.value (c.loop-copies.invariant.3 b k m g e) t),
+          (copies-next a.setup (tables b k m a.words.now g) a.block e a.offset a.value (c.loop-j.invariant.3 b k m g e) t),
     )

@@ -1,13 +1,8 @@
 -- The owner that the mask shows is the tables' owner, so what it has marked is written back; a slot names a block of main memory, whoever it belongs to.
+use native.Mathlib.Omega.{arith}
 use borrow.Author.Tests.{lt-ltb, le-ltb}
 use Rattle.protocol.specs.Rules.{released}
 use Rattle.engine_lines.proofs.release.Goals as goal
-
-pub returns-then-setup-j : goal.returns-then-setup-j
-unfolding released
-returns-then-setup-j c cs e =
-    let a = c.args in
-    rw (← (c.owner-j.ensures a.blocks.now cs a.words.now a.memory.now e), le-ltb c.owner-j.result a.setup.processors c.if-setup-j.true)
 
 pub write_back-requires : goal.write_back-requires
 write_back-requires c =
@@ -17,9 +12,15 @@ write_back-requires c =
       per_slot = p.per_slot;
     }
 
-pub returns : goal.returns
+pub returns-in-Some : goal.returns-in-Some
 unfolding released
-returns c cs e =
+returns-in-Some c cs e =
     let a = c.args in
-    rw (← (c.owner-j.ensures a.blocks.now cs a.words.now a.memory.now e), lt-ltb c.owner-j.result a.setup.processors c.if-setup-j.false, ← c.slot.ensures.value)
+    rw (← (c.in-Some.ensures.value a.blocks.now cs a.words.now a.memory.now e), lt-ltb c.in-Some.j a.setup.processors c.in-Some.ensures.in_range, ← c.slot.ensures.value)
     (c.write_back.ensures cs)
+
+pub returns-in_default : goal.returns-in_default
+unfolding released
+returns-in_default c cs e =
+    let a = c.args in
+    rw (← (c.in_default.ensures.value a.blocks.now cs a.words.now a.memory.now e), le-ltb a.setup.processors a.setup.processors (omega arith))

@@ -69,9 +69,9 @@ bounds-masks-b c =
     let t = tables a.blocks.now a.counters.now a.marks.now a.words.now a.memory.now in
     omega (arith, p.block_lt_blocks, length-masks a.setup t p.true_masks)
 
-pub payer-j-requires : goal.payer-j-requires
+pub payer-requires : goal.payer-requires
 unfolding holders
-payer-j-requires c =
+payer-requires c =
     let a = c.args in
     let p = c.requires in
     let t = tables a.blocks.now a.counters.now a.marks.now a.words.now a.memory.now in record {
@@ -81,16 +81,16 @@ payer-j-requires c =
       per_slot = p.sized.counters;
     }
 
-pub returns-then-setup-j : goal.returns-then-setup-j
+pub returns-in_default : goal.returns-in_default
 unfolding written update_cycles
-returns-then-setup-j c =
+returns-in_default c =
     let a = c.args in
     let p = c.requires in
     let s = a.setup in
     let t = tables a.blocks.now a.counters.now a.marks.now a.words.now a.memory.now in
     let mask = mask-read s t a.block p.true_masks p.block_lt_blocks in
-    let found = c.payer-j.ensures a.blocks.now a.marks.now a.words.now a.memory.now mask in
-    let e = alone s t a.processor a.block c.payer-j.result found c.if-setup-j.true in
+    let found = c.in_default.ensures.value a.blocks.now a.marks.now a.words.now a.memory.now mask in
+    let e = alone s t a.processor a.block s.processors found (omega arith) in
     let w = c.write_alone.ensures a.blocks.now a.memory.now in record {
       value = rw e;
       memory_value = rw (e, ← c.slot-k.ensures.value) w;
@@ -114,8 +114,8 @@ write_shared-emptied-requires c =
     let s = a.setup in
     let t = tables a.blocks.now a.counters.now a.marks.now a.words.now a.memory.now in
     let mask = mask-read s t a.block p.true_masks p.block_lt_blocks in
-    let found = c.payer-j.ensures a.blocks.now a.marks.now a.words.now a.memory.now mask in
-    let held = holder-slot s t c.payer-j.result a.block (pays s t a.processor a.block c.payer-j.result found c.if-setup-j.false) in record {
+    let found = c.in-Some.ensures.value a.blocks.now a.marks.now a.words.now a.memory.now mask in
+    let held = holder-slot s t c.in-Some.j a.block (pays s t a.processor a.block c.in-Some.j found c.in-Some.ensures.in_range) in record {
       fits = p.fits;
       writer_bound = (c.slot-k.ensures.within, c.slot.ensures.within);
       block_lt_blocks = p.block_lt_blocks;
@@ -133,16 +133,16 @@ returns-then-not-emptied c =
     let s = a.setup in
     let t = tables a.blocks.now a.counters.now a.marks.now a.words.now a.memory.now in
     let mask = mask-read s t a.block p.true_masks p.block_lt_blocks in
-    let found = c.payer-j.ensures a.blocks.now a.marks.now a.words.now a.memory.now mask in
-    let e = shared s t a.processor a.block c.payer-j.result found c.if-setup-j.false in
+    let found = c.in-Some.ensures.value a.blocks.now a.marks.now a.words.now a.memory.now mask in
+    let e = shared s t a.processor a.block c.in-Some.j found c.in-Some.ensures.in_range in
     let w = c.write_shared-emptied.ensures.memory_value in
     let left = eqb-false _ _ (sym c.write_shared-emptied.ensures.value ∙ c.if-not-emptied.true) in record {
       value = rw e;
       memory_value = rw (e, ← found, ← c.slot-k.ensures.value, ← c.slot.ensures.value) w;
       masks_after = p.true_masks
           ∙ masks-kept s p.fits t a.processor a.block p.block_value c.slot-k.result c.slot-k.ensures.value a.offset a.value p.sized
-          c.payer-j.result c.slot.result c.slot.ensures.value c.slot.ensures.within p.block_lt_blocks
-          (pays s t a.processor a.block c.payer-j.result found c.if-setup-j.false) left
+          c.in-Some.j c.slot.result c.slot.ensures.value c.slot.ensures.within p.block_lt_blocks
+          (pays s t a.processor a.block c.in-Some.j found c.in-Some.ensures.in_range) left
           ∙ sym (ap (masks_of s) w);
     }
 
@@ -151,7 +151,7 @@ lose-requires c =
     let a = c.args in
     let p = c.requires in
     let t = tables a.blocks.now a.counters.now a.marks.now a.words.now a.memory.now in
-    (omega (arith, c.if-setup-j.false, p.fits.few-processors), omega (arith, p.block_lt_blocks, length-masks a.setup t p.true_masks))
+    (omega (arith, c.in-Some.ensures.in_range, p.fits.few-processors), omega (arith, p.block_lt_blocks, length-masks a.setup t p.true_masks))
 
 pub returns : goal.returns
 unfolding written update_cycles
@@ -161,15 +161,15 @@ returns c =
     let s = a.setup in
     let t = tables a.blocks.now a.counters.now a.marks.now a.words.now a.memory.now in
     let mask = mask-read s t a.block p.true_masks p.block_lt_blocks in
-    let found = c.payer-j.ensures a.blocks.now a.marks.now a.words.now a.memory.now mask in
-    let e = shared s t a.processor a.block c.payer-j.result found c.if-setup-j.false in
+    let found = c.in-Some.ensures.value a.blocks.now a.marks.now a.words.now a.memory.now mask in
+    let e = shared s t a.processor a.block c.in-Some.j found c.in-Some.ensures.in_range in
     let w = c.write_shared-emptied.ensures.memory_value in
     let last = eqb-true _ _ (sym c.write_shared-emptied.ensures.value ∙ c.if-not-emptied.false) in record {
       value = rw e;
       memory_value = rw (e, ← found, ← c.slot-k.ensures.value, ← c.slot.ensures.value) w;
-      masks_after = c.lose.ensures ∙ ap (λ h. lost h a.block c.payer-j.result) p.true_masks
+      masks_after = c.lose.ensures ∙ ap (λ h. lost h a.block c.in-Some.j) p.true_masks
           ∙ masks-emptied s p.fits t a.processor a.block p.block_value c.slot-k.result c.slot-k.ensures.value a.offset a.value p.sized
-          c.payer-j.result c.slot.result c.slot.ensures.value c.slot.ensures.within p.block_lt_blocks
-          (pays s t a.processor a.block c.payer-j.result found c.if-setup-j.false) last
+          c.in-Some.j c.slot.result c.slot.ensures.value c.slot.ensures.within p.block_lt_blocks
+          (pays s t a.processor a.block c.in-Some.j found c.in-Some.ensures.in_range) last
           ∙ sym (ap (masks_of s) w);
     }
