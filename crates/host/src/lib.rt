@@ -3,6 +3,7 @@
 
 ghost use Rattle.std.specs.Prelude.{◌≡◌, ◌≢◌};
 ghost use Rattle.protocol_types.specs.Refusals.{no_refusal};
+ghost use Rattle.protocol_types.specs.Answers.{price_answer};
 ghost use Rattle.protocol.specs.Lent.{lent, lent_masked};
 ghost use Rattle.protocol.specs.Engines.{answered};
 ghost use Rattle.protocol.specs.Runs.{start_refusal, started};
@@ -17,7 +18,7 @@ ghost use Rattle.best_schedule.specs.Lent.{search_lent};
 ghost use Rattle.host_numbers.specs.Numbers.{account_of, run_numbers, price_in_numbers, price_tables_of_numbers};
 ghost use Rattle.host.specs.Host.{host_version, setup_of, block_numbered, report_of};
 
-use protocol_types::{Account, Block, PriceAnswer, Setup};
+use protocol_types::{Account, Block, PlacedRefusal, Setup};
 
 // It counts the changes of these functions' signatures and meanings, and the functions that are added.
 const VERSION: u32 = 6;
@@ -200,33 +201,30 @@ pub extern "C" fn cuzkelor_run(
 }
 
 // The refusal number of an answer, or 0.
-fn number_of(answer: PriceAnswer) -> u32
-    ensures { result ≡ number_of answer }
+fn number_of(answer: Result<u32, PlacedRefusal>) -> u32
+    ensures { result ≡ number_of (price_answer answer) }
 {
     match answer {
-        PriceAnswer::Accepted(_) => protocol_types::NO_REFUSAL,
-        PriceAnswer::Refused(number, _) => number,
+        Ok(_) => 0,
+        Err(refused) => refused.refusal.number(),
     }
 }
 
 // Its place; 0 with no refusal.
-fn place_of(answer: PriceAnswer) -> usize
-    ensures { result ≡ place_of answer }
+fn place_of(answer: Result<u32, PlacedRefusal>) -> usize
+    ensures { result ≡ place_of (price_answer answer) }
 {
     match answer {
-        PriceAnswer::Accepted(_) => 0,
-        PriceAnswer::Refused(_, place) => place,
+        Ok(_) => 0,
+        Err(refused) => refused.place,
     }
 }
 
 // Its cost; 0 with a refusal.
-fn cost_of(answer: PriceAnswer) -> u32
-    ensures { result ≡ cost_of answer }
+fn cost_of(answer: Result<u32, PlacedRefusal>) -> u32
+    ensures { result ≡ cost_of (price_answer answer) }
 {
-    match answer {
-        PriceAnswer::Accepted(cost) => cost,
-        PriceAnswer::Refused(_, _) => 0,
-    }
+    answer.unwrap_or(0)
 }
 
 // The price of a schedule, three numbers an entry, for the requests, four numbers each. The refusal number, or 0.

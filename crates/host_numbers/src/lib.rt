@@ -2,17 +2,18 @@
 #![tactic(auto)]
 
 ghost use Rattle.std.specs.Prelude.{◌≡◌};
+ghost use Rattle.protocol_types.specs.Answers.{price_answer};
 ghost use Rattle.protocol.specs.Lent.{lent_masked};
 ghost use Rattle.protocol.specs.Engines.{run as ran};
 ghost use Rattle.protocol.specs.Runs.{masked_engine};
-ghost use Rattle.protocol.specs.Pricer.{price as priced, price_tables, in_numbers};
+ghost use Rattle.protocol.specs.Pricer.{in_numbers};
 ghost use Rattle.protocol.specs.Accounts.{nothing};
 ghost use Rattle.rival_copies.specs.Copies.{rival_lent};
 ghost use Rattle.run_progress.specs.Progress.{Room, outcome};
-ghost use Rattle.host_decoding.specs.Records.{requests_of, entries_of};
+ghost use Rattle.host_decoding.specs.Records.{requests_of};
 ghost use Rattle.host_numbers.specs.Numbers.{account_of, run_numbers, price_of_numbers, price_in_numbers, price_tables_of_numbers};
 
-use protocol_types::{Account, PriceAnswer, RunAnswer, Setup};
+use protocol_types::{Account, PlacedRefusal, RunAnswer, Setup};
 
 // What a run answers, and the account after it.
 #[derive(Clone, Copy)]
@@ -104,34 +105,6 @@ pub fn run(
     )
 }
 
-// A schedule is played entry by entry from empty caches, to the first refused one.
-fn price_schedule(
-    setup: Setup,
-    blocks: &mut [u32],
-    held: &mut [u32],
-    marks: &mut [u32],
-    entries: &[u32],
-    requests: &[u32],
-) -> PriceAnswer
-    ensures { (result ≡ priced setup (rival_lent blocks.old held.old marks.old) (requests_of requests.now) (entries_of entries.now))
-        × (rival_lent blocks.new held.new marks.new
-        ≡ price_tables setup (rival_lent blocks.old held.old marks.old) (requests_of requests.now) (entries_of entries.now)) }
-{
-    let entry_count = host_decoding::entry_count(entries);
-    let request_count = host_decoding::request_count(requests);
-    let mut p = rival_schedule::begin(setup, blocks, held, marks, entry_count, request_count);
-    while p.going {
-        if p.completing {
-            let request = host_decoding::request_at(requests, p.next);
-            p = rival_schedule::complete(setup, blocks, held, marks, p, request);
-        } else {
-            let entry = host_decoding::entry_at(entries, p.at);
-            p = rival_schedule::take(setup, blocks, held, marks, p, entry);
-        }
-    }
-    p.answer
-}
-
 // The price of a schedule for the requests; lists that are not whole are refused.
 pub fn price(
     setup: Setup,
@@ -140,13 +113,10 @@ pub fn price(
     marks: &mut [u32],
     entries: &[u32],
     requests: &[u32],
-) -> PriceAnswer
-    ensures { (result ≡ price_of_numbers setup (rival_lent blocks.old held.old marks.old) requests.now entries.now)
-        × (in_numbers result ≡ price_in_numbers setup (rival_lent blocks.old held.old marks.old) requests.now entries.now)
+) -> Result<u32, PlacedRefusal>
+    ensures { (price_answer result ≡ price_of_numbers setup (rival_lent blocks.old held.old marks.old) requests.now entries.now)
+        × (in_numbers (price_answer result) ≡ price_in_numbers setup (rival_lent blocks.old held.old marks.old) requests.now entries.now)
         × (rival_lent blocks.new held.new marks.new ≡ price_tables_of_numbers setup (rival_lent blocks.old held.old marks.old) requests.now entries.now) }
 {
-    if !host_decoding::are_whole(requests, entries) {
-        return PriceAnswer::Refused(host_decoding::partial_refusal(setup), 0);
-    }
-    price_schedule(setup, blocks, held, marks, entries, requests)
+    rival_pricer::price(setup, blocks, held, marks, entries, requests)
 }

@@ -5,7 +5,7 @@ ghost use Rattle.std.specs.Prelude.{◌≤◌, length};
 use crate::layout::{ENTRIES, REAL, REQUESTS};
 use crate::{lent, setups};
 use host_numbers::Ran;
-use protocol_types::{Account, Block, PriceAnswer, Setup};
+use protocol_types::{Account, Block, PlacedRefusal, Setup};
 use trials_cells::cells::{Cells, get, put, sum};
 use trials_cells::state;
 
@@ -237,7 +237,7 @@ fn run(cells: &mut Cells, setup: Setup, account: Account, n: u32) -> Ran {
 }
 
 // The price of the first m numbers of the entries for the first n numbers of the requests.
-fn price(cells: &mut Cells, setup: Setup, m: u32, n: u32) -> PriceAnswer {
+fn price(cells: &mut Cells, setup: Setup, m: u32, n: u32) -> Result<u32, PlacedRefusal> {
     let view: &Cells = cells;
     let mut blocks = [0u32; ROOM];
     let mut held = [0u32; ROOM];
@@ -270,12 +270,16 @@ fn run_answer(ran: Ran) -> Answer {
 }
 
 // A legal schedule has no place, and a refused one no cost.
-fn price_answer(answer: PriceAnswer) -> Answer {
+fn price_answer(answer: Result<u32, PlacedRefusal>) -> Answer {
     match answer {
-        PriceAnswer::Accepted(cost) => answer_of(0, 0, 0, cost, setups::fresh_account()),
-        PriceAnswer::Refused(number, place) => {
-            answer_of(number, place, 0, 0, setups::fresh_account())
-        }
+        Ok(cost) => answer_of(0, 0, 0, cost, setups::fresh_account()),
+        Err(refused) => answer_of(
+            refused.refusal.number(),
+            refused.place,
+            0,
+            0,
+            setups::fresh_account(),
+        ),
     }
 }
 

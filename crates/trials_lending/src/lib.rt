@@ -3,6 +3,7 @@
 #![tactic(auto)]
 
 ghost use Rattle.std.specs.Prelude.{◌≡◌, length};
+ghost use Rattle.protocol_types.specs.Answers.{price_answer};
 ghost use Rattle.protocol.specs.Lent.{lent_masked};
 ghost use Rattle.protocol.specs.Engines.{run as ran};
 ghost use Rattle.protocol.specs.Runs.{masked_engine};
@@ -12,7 +13,7 @@ ghost use Rattle.rival_copies.specs.Copies.{rival_lent};
 ghost use Rattle.run_progress.specs.Progress.{outcome};
 
 use host_numbers::Ran;
-use protocol_types::{Account, Entry, PriceAnswer, Request, Setup};
+use protocol_types::{Account, Entry, PlacedRefusal, Request, Setup};
 
 // How many requests a list has, and how many entries a schedule.
 pub const REQUESTS: usize = 8;
@@ -61,9 +62,9 @@ pub fn price_arrays(
     marks: &mut [u32],
     entries: [Entry; ENTRIES],
     requests: [Request; REQUESTS],
-) -> PriceAnswer
-    ensures { (result ≡ priced setup (rival_lent blocks.old held.old marks.old) requests entries)
-        × (in_numbers result ≡ price_numbers setup (rival_lent blocks.old held.old marks.old) requests entries)
+) -> Result<u32, PlacedRefusal>
+    ensures { (price_answer result ≡ priced setup (rival_lent blocks.old held.old marks.old) requests entries)
+        × (in_numbers (price_answer result) ≡ price_numbers setup (rival_lent blocks.old held.old marks.old) requests entries)
         × (rival_lent blocks.new held.new marks.new ≡ price_tables setup (rival_lent blocks.old held.old marks.old) requests entries) }
 {
     rival_pricer::price(setup, blocks, held, marks, &entries, &requests)

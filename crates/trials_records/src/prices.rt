@@ -1,7 +1,7 @@
 // A schedule priced over records, and the same over numbers.
 use crate::board::Copies;
 use crate::{board, lists, numbers, sides};
-use protocol_types::{Entry, PriceAnswer, Request};
+use protocol_types::{Entry, PlacedRefusal, Request};
 use trials_cells::cells::Cells;
 use trials_cells::state;
 use trials_lending::{ENTRIES, REQUESTS};
@@ -9,7 +9,7 @@ use trials_lending::{ENTRIES, REQUESTS};
 // What a price answered, and the copies that it left.
 #[derive(Clone, Copy)]
 pub struct Priced {
-    pub answer: PriceAnswer,
+    pub answer: Result<u32, PlacedRefusal>,
     pub copies: Copies,
 }
 
@@ -67,9 +67,9 @@ fn lay_priced(cells: &mut Cells, side: u32, priced: Priced) {
     let answer = priced.answer;
     let copies = priced.copies;
     match answer {
-        PriceAnswer::Accepted(cost) => sides::lay_answer(cells, side, 0, 0, 0, cost),
-        PriceAnswer::Refused(number, place) => {
-            sides::lay_answer(cells, side, number, place, 0, 0)
+        Ok(cost) => sides::lay_answer(cells, side, 0, 0, 0, cost),
+        Err(refused) => {
+            sides::lay_answer(cells, side, refused.refusal.number(), refused.place, 0, 0)
         }
     }
     sides::lay_copies(cells, side, copies);
