@@ -1,13 +1,8 @@
--- Laws of the digits of a position, and of a line without a division.
+-- Laws of the digits of a position.
 use Prim.Native.Nat.{ℕ, zero, suc, ◌+◌, ◌-◌, ◌*◌, ◌/◌, ◌%◌, ◌≤◌, ◌<◌}
 use mathlib.Core.Path.{◌≡◌}
-use mathlib.Core.Bool.{not}
 use native.Mathlib.Omega.{arith}
-use native.Mathlib.Nat.{mul-le-mul}
-use lib.Dec.{leb, ltb}
-use borrow.Author.Tests.{ne_eqb, lt-leb, le-leb}
-use Rattle.protocol_types.proofs.Laws.{Under, under, over, under?}
-use Rattle.protocol_types.proofs.Board.{row-mod}
+use borrow.Author.Tests.{ne_eqb}
 use Rattle.best_positions.specs.Position.{weight, digit, with_digit}
 
 weight-last : (b : ℕ) → weight (suc (suc (suc b))) ≡ 216
@@ -37,17 +32,3 @@ digit-part u b = (digit-of u b).part
 
 pub with-lt : (u b d : ℕ) → u < 32400 → d < 6 → with_digit u b d < 32400
 with-lt u b = (digit-of u b).stays
-
-pub part-le : (d w : ℕ) → d < 6 → w ≤ 216 → d * w ≤ 1080
-part-le d w h l = let k : d ≤ 5 = omega arith in mul-le-mul k l
-
-pub leb-not-ltb : (n m : ℕ) → leb n m ≡ not (ltb m n)
-leb-not-ltb n m = go (under? m n)
-  where
-    go : Under m n → leb n m ≡ not (ltb m n)
-    go (under h e) = rw (e, lt-leb n m h)
-    go (over h e) = rw (e, le-leb n m h)
-
--- r above q times the lines
-pub line-once : (lines b r q : ℕ) → r < lines → b ≡ q * lines + r → b % lines ≡ r
-line-once lines b r q h e = rw e (row-mod q lines r h)

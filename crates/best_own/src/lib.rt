@@ -7,7 +7,7 @@ ghost use Rattle.best_own_parts.specs.Playing.{Ready, Moved};
 ghost use Rattle.best_own.specs.Own.{paying_codes, serving_codes, read_counters, written_counters, served_counters};
 ghost use Rattle.best_own.specs.Written.{OwnWritten};
 
-use best_moves::{ask_at, holds_block};
+use best_moves::{CLEAR, holds_block, is_write};
 use best_own_parts::{Playing, clear, obtain, play_completion, play_drop};
 use protocol_types::Setup;
 
@@ -21,114 +21,109 @@ pub struct Own {
 // ---- one request
 
 // The other processor, where it shares block b with the writer i, drops it if its counter was 1.
-fn pay<'a>(
+#[tactic(auto, unfolding(crate::specs::Own::paying_codes))]
+fn pay(
     setup: Setup,
-    asks: &'a [u32],
+    asks: &[u32],
     u: usize,
     counters: [u32; 8],
     i: usize,
     b: usize,
     a: Playing,
-    numbers: &'a mut [u32],
+    numbers: &mut [u32],
 ) -> Playing
-    requires { Ready setup a numbers.old 1 × (i < 2) × (b < 4) }
+    requires ready { Ready setup a numbers.old 1 }
+    requires processor { i < 2 }
+    requires block { b < 4 }
     ensures { Moved setup asks.now (paying_codes u counters i b) 1 0 0 a result numbers.old numbers.new }
 {
-    let j = 1 - i;
-    if !holds_block(u, j, b) {
-        return a;
+    let payer = 1 - i;
+    if holds_block(u, payer, b) && counters[4 * payer + b] == 1 {
+        play_drop(setup, asks, payer, b, a, numbers)
+    } else {
+        a
     }
-    if counters[4 * j + b] != 1 {
-        return a;
-    }
-    play_drop(setup, asks, j, b, a, numbers)
 }
 
 // Request ask, which finds the engine at a with these counters, is served.
-fn serve<'a>(
+fn serve(
     setup: Setup,
-    asks: &'a [u32],
+    asks: &[u32],
     counters: [u32; 8],
     ask: usize,
     a: Playing,
-    numbers: &'a mut [u32],
+    numbers: &mut [u32],
 ) -> Playing
-    requires { Ready setup a numbers.old 129 × (a.position < 31104) }
+    requires ready { Ready setup a numbers.old 129 }
+    requires left { a.position < 31104 }
     ensures { Moved setup asks.now (serving_codes setup a.position counters ask) 129 2080 1 a result numbers.old numbers.new }
 {
-    let u = a.position;
     let i = ask % 2;
-    if 16 <= ask {
+    if CLEAR <= ask {
         let emptied = clear(setup, asks, i, a, numbers);
         return play_completion(setup, asks, emptied, numbers);
     }
     let b = ask / 4;
     let obtained = obtain(setup, asks, i, b, a, numbers);
     let completed = play_completion(setup, asks, obtained, numbers);
-    if ask / 2 % 2 == 1 {
-        return pay(setup, asks, u, counters, i, b, completed, numbers);
+    if is_write(ask) {
+        return pay(setup, asks, a.position, counters, i, b, completed, numbers);
     }
     completed
 }
 
-// One less; 0 stays.
-fn lowered(x: u32) -> u32
-    ensures { result ≡ x - 1 }
-{
-    if x == 0 {
-        return 0;
-    }
-    x - 1
-}
-
 // The counters once processor i has read block b: a fetch fills its own.
-fn read_counters(setup: Setup, u: usize, counters: [u32; 8], i: usize, b: usize) -> [u32; 8]
-    requires { (i < 2) × (b < 4) }
+#[tactic(auto, unfolding(crate::specs::Own::read_counters, crate::specs::Own::refilled))]
+fn read_counters(setup: Setup, u: usize, mut counters: [u32; 8], i: usize, b: usize) -> [u32; 8]
+    requires processor { i < 2 }
+    requires block { b < 4 }
     ensures { result ≡ read_counters setup u counters i b }
 {
-    if holds_block(u, i, b) {
-        return counters;
+    if !holds_block(u, i, b) {
+        counters[4 * i + b] = setup.fetch_price();
     }
-    let mut filled = counters;
-    filled[4 * i + b] = setup.fetch_price();
-    filled
+    counters
 }
 
 // The counters once processor i has written block b: its own is full, and the payer's falls by 1.
-fn written_counters(setup: Setup, u: usize, counters: [u32; 8], i: usize, b: usize) -> [u32; 8]
-    requires { (i < 2) × (b < 4) }
+#[tactic(auto, unfolding(crate::specs::Own::written_counters, crate::specs::Own::refilled))]
+fn written_counters(setup: Setup, u: usize, mut counters: [u32; 8], i: usize, b: usize) -> [u32; 8]
+    requires processor { i < 2 }
+    requires block { b < 4 }
     ensures { result ≡ written_counters setup u counters i b }
 {
-    let other = 1 - i;
-    let old = counters[4 * other + b];
-    let mut c = counters;
-    c[4 * i + b] = setup.fetch_price();
-    if !holds_block(u, other, b) {
-        return c;
+    let payer = 1 - i;
+    let own = 4 * i + b;
+    let paid = 4 * payer + b;
+    let old = counters[paid];
+    counters[own] = setup.fetch_price();
+    if holds_block(u, payer, b) {
+        counters[paid] = old.saturating_sub(1);
     }
-    c[4 * other + b] = lowered(old);
-    c
+    counters
 }
 
 // The counters once request ask, which found the engine at position u, is served.
+#[tactic(auto, unfolding(crate::specs::Own::served_counters))]
 fn served_counters(setup: Setup, u: usize, counters: [u32; 8], ask: usize) -> [u32; 8]
     ensures { result ≡ served_counters setup u counters ask }
 {
-    if 16 <= ask {
-        return counters;
+    if CLEAR <= ask {
+        counters
+    } else if is_write(ask) {
+        written_counters(setup, u, counters, ask % 2, ask / 4)
+    } else {
+        read_counters(setup, u, counters, ask % 2, ask / 4)
     }
-    if ask / 2 % 2 == 1 {
-        return written_counters(setup, u, counters, ask % 2, ask / 4);
-    }
-    read_counters(setup, u, counters, ask % 2, ask / 4)
 }
 
 // ---- the list
 
 // The numbers of the engine's own actions are written at the front of the lent list, whose other numbers stay.
-pub fn own_actions<'a>(setup: Setup, asks: &'a [u32], numbers: &'a mut [u32]) -> Own
+pub fn own_actions(setup: Setup, asks: &[u32], numbers: &mut [u32]) -> Own
     requires fits { Fits setup × (setup.blocks ≤ 4) }
-    requires asks_len_bound { (length asks.now ≤ 24) × (length numbers.old ≡ 32400) }
+    requires asks_len_bound { length asks.now ≤ 24 }
+    requires sized { length numbers.old ≡ 32400 }
     ensures { OwnWritten setup asks.now result numbers.old numbers.new }
 {
     let mut a = Playing {
@@ -136,15 +131,13 @@ pub fn own_actions<'a>(setup: Setup, asks: &'a [u32], numbers: &'a mut [u32]) ->
         length: 0,
         cost: 0,
     };
-    let mut counters: [u32; 8] = [0; 8];
-    let mut n: usize = 0;
-    while n < asks.len() {
-        let ask = ask_at(asks, n);
+    let mut counters = [0; 8];
+    for ask in asks {
+        let ask = *ask as usize;
         let u = a.position;
         a = serve(setup, asks, counters, ask, a, numbers);
         let next = served_counters(setup, u, counters, ask);
         counters = next;
-        n += 1;
     }
     Own {
         length: a.length,

@@ -8,10 +8,8 @@ ghost use Rattle.best_way.specs.Hops.{hops};
 ghost use Rattle.best_schedule.specs.Lent.{search_lent, TablesFit};
 ghost use Rattle.best_schedule.specs.Found.{numbers_to, best_found, tables_after};
 
+use best_tries::POSITION_COUNT;
 use protocol_types::{BestSchedule, Setup};
-
-// The positions of the search.
-const POSITION_COUNT: usize = 32400;
 
 // The cost less half the engine's cycles, that half rounded up; 0 if it is not above it.
 fn excess(cost: u32, engine: u32) -> u32
@@ -19,24 +17,23 @@ fn excess(cost: u32, engine: u32) -> u32
     ensures { result ≡ cost - (engine + 1) / 2 }
 {
     let half = (engine + 1) / 2;
-    if cost < half {
-        return 0;
-    }
-    cost - half
+    cost.saturating_sub(half)
 }
 
 // The schedule's numbers are written at the front of the lent ones, whose others stay: the way to the goal, or the engine's own actions. Their count.
-fn write_schedule<'a>(
+fn write_schedule(
     setup: Setup,
-    asks: &'a [u32],
+    asks: &[u32],
     goal: usize,
-    predecessors: &'a [u32],
-    numbers: &'a mut [u32],
+    predecessors: &[u32],
+    numbers: &mut [u32],
 ) -> usize
-    requires fits { Fits setup × (setup.blocks ≤ 4) × (length asks.now ≤ 24) × (length predecessors.now ≡ 32400) × (length numbers.old ≡ 32400) }
-    requires by_index { ((j : ℕ) → at predecessors.now j / 18 < 32400) × (goal ≢ 32400 → goal < 32400) × (goal ≢ 32400 → hops 32401 predecessors.now goal ≤ 32400) }
-    ensures { (result ≡ length (numbers_to setup asks.now predecessors.now goal))
-        × (numbers.new ≡ numbers_to setup asks.now predecessors.now goal ++ drop result numbers.old) }
+    requires fits { Fits setup × (setup.blocks ≤ 4) × (length asks.now ≤ 24) }
+    requires sized { (length predecessors.now ≡ 32400) × (length numbers.old ≡ 32400) }
+    requires before { (j : ℕ) → at predecessors.now j / 18 < 32400 }
+    requires goal { goal ≢ 32400 → (goal < 32400) × (hops 32401 predecessors.now goal ≤ 32400) }
+    ensures count { result ≡ length (numbers_to setup asks.now predecessors.now goal) }
+    ensures written { numbers.new ≡ numbers_to setup asks.now predecessors.now goal ++ drop result numbers.old }
 {
     if goal == POSITION_COUNT {
         let own = best_own::own_actions(setup, asks, numbers);
@@ -48,14 +45,14 @@ fn write_schedule<'a>(
 }
 
 // The best schedule that so many steps find, for the requests with these numbers; the tables may hold anything before.
-pub fn find<'a>(
+pub fn find(
     setup: Setup,
-    asks: &'a [u32],
+    asks: &[u32],
     steps: u32,
-    distances: &'a mut [u32],
-    order: &'a mut [u32],
-    predecessors: &'a mut [u32],
-    lowest: &'a mut [u32],
+    distances: &mut [u32],
+    order: &mut [u32],
+    predecessors: &mut [u32],
+    lowest: &mut [u32],
 ) -> BestSchedule
     requires fits { Fits setup × (setup.blocks ≤ 4) × (length asks.now ≤ 24) }
     requires tables_fit { TablesFit (search_lent distances.old order.old predecessors.old lowest.old) }

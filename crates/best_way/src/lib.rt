@@ -8,36 +8,44 @@ ghost use Rattle.best_way.specs.Hops.{hops};
 
 use protocol_types::Setup;
 
+// The entries of a position.
+const ENTRY_COUNT: u32 = 18;
+
+// One more than there are positions.
+const HOP_LIMIT: usize = 32401;
+
 // How many entries lie on the way back from v.
 pub fn way_length(v: usize, predecessors: &[u32]) -> usize
-    requires { (length predecessors.now ≡ 32400) × ((j : ℕ) → at predecessors.now j / 18 < 32400) × (v < 32400) }
-    ensures { (result ≡ hops 32401 predecessors.now v) × (result ≤ 32401) }
+    requires sized { length predecessors.now ≡ 32400 }
+    requires before { (j : ℕ) → at predecessors.now j / 18 < 32400 }
+    requires position { v < 32400 }
+    ensures value { result ≡ hops 32401 predecessors.now v }
+    ensures bound { result ≤ 32401 }
 {
     let mut u = v;
-    let mut n: usize = 0;
-    while n < 32401 {
+    for n in 0..HOP_LIMIT {
         if u == 0 {
-            break;
+            return n;
         }
-        u = best_moves::wide(predecessors[u] / 18);
-        n += 1;
+        u = (predecessors[u] / ENTRY_COUNT) as usize;
     }
-    n
+    HOP_LIMIT
 }
 
 // The n entries on the way back from v come to the front of the numbers, and the others stay.
 pub fn write_way(v: usize, n: usize, predecessors: &[u32], numbers: &mut [u32])
-    requires { (length predecessors.now ≡ 32400) × ((j : ℕ) → at predecessors.now j / 18 < 32400) × (v < 32400) × (n ≡ hops 32401 predecessors.now v)
-        × (n ≤ length numbers.old) }
+    requires sized { length predecessors.now ≡ 32400 }
+    requires before { (j : ℕ) → at predecessors.now j / 18 < 32400 }
+    requires position { v < 32400 }
+    requires count { n ≡ hops 32401 predecessors.now v }
+    requires room { n ≤ length numbers.old }
     ensures { (s : Setup) (asks : List ℕ) → numbers.new ≡ way_back s asks predecessors.now v ++ drop n numbers.old }
 {
     let mut u = v;
-    let mut j = n;
-    while 0 < j {
+    for j in (0..n).rev() {
         let way = predecessors[u];
-        let w = best_moves::wide(way / 18);
-        j -= 1;
-        numbers[j] = best_moves::entry_number(w, way % 18);
-        u = w;
+        let from = (way / ENTRY_COUNT) as usize;
+        numbers[j] = best_moves::entry_number(from, way % ENTRY_COUNT);
+        u = from;
     }
 }

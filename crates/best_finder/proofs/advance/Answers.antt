@@ -50,7 +50,7 @@ try_entry-requires c =
       few = z.few.2;
       reached = z.reached;
       next = omega (arith, c.next_at-next.ensures, next-lt a.setup a.asks.now a.p.current a.p.code z.fits.1 z.few.0 legal);
-      cheap = c.price_at-price.ensures.1;
+      cheap = c.price_at-price.ensures.bound;
     }
 
 pub returns : goal.returns
@@ -68,7 +68,7 @@ returns c =
           let us : List Tried = record { position = a.p.current; code = a.p.code } ∷ ts in
           moved_by g t (past (relaxed g t) us) k.new.distances o k.new.predecessors k.result (tick-try a.setup a.asks.now t c.if-p-ge-ENTRY_COUNT.false legal)
           (ap (λ xs. state_at k.new.distances o k.new.predecessors k.result xs) (past-tries (relaxed g t) us)
-          ∙ k.ensures.state g refl c.next_at-next.ensures c.price_at-price.ensures.0 refl o ts us) (ap length (past-tries (relaxed g t) us) ∙ omega (arith, l, k.ensures.count));
+          ∙ k.ensures.state g refl c.next_at-next.ensures c.price_at-price.ensures.value refl o ts us) (ap length (past-tries (relaxed g t) us) ∙ omega (arith, l, k.ensures.count));
       table = k.ensures.table o
-          (open-there g d o a.p.current a.p.code c.next_at-next.result c.price_at-price.result c.next_at-next.ensures c.price_at-price.ensures.0 legal z.next) z.table;
+          (open-there g d o a.p.current a.p.code c.next_at-next.result c.price_at-price.result c.next_at-next.ensures c.price_at-price.ensures.value legal z.next) z.table;
     }

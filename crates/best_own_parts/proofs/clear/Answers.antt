@@ -7,13 +7,13 @@ use Rattle.best_own_parts.proofs.Moves.{moved-less, moved_none, moved_on, ready_
 use Rattle.best_own_parts.proofs.clear.Goals as goal
 
 pub loop-line-init : goal.loop-line-init
-loop-line-init c = let a = c.args in (omega arith, moved_none a.setup a.asks.now 0 0 a.a a.numbers.now)
+loop-line-init c = let a = c.args in moved_none a.setup a.asks.now 0 0 a.a a.numbers.now
 
-pub evict-z-requires : goal.evict-z-requires
-evict-z-requires c = let w = c.loop-line in (ready_on c.requires.0 w.invariant.1 2 (omega (arith, c.requires.0.fits.few-lines)) (omega arith) (omega (arith, w.invariant.1.layer, c.requires.0.position)), c.requires.1)
+pub evict-cleared-requires : goal.evict-cleared-requires
+evict-cleared-requires c = let w = c.loop-line in record { ready = ready_on c.requires.ready w.invariant 2 (omega (arith, c.requires.ready.fits.few-lines)) (omega arith) (omega (arith, w.invariant.layer, c.requires.ready.position)); processor = c.requires.processor }
 
 pub loop-line-preserved : goal.loop-line-preserved
-loop-line-preserved c = let l = c.loop-line.line in (omega arith, rw (add-one l) (moved-less (2 * suc l) (32 * suc l) (omega arith) (omega arith) (moved_on c.loop-line.invariant.1 c.evict-z.ensures)))
+loop-line-preserved c = let l = c.loop-line.line in rw (add-one l) (moved-less (2 * suc l) (32 * suc l) (omega arith) (omega arith) (moved_on c.loop-line.invariant c.evict-cleared.ensures))
 
 pub returns : goal.returns
-returns c = let w = c.loop-line in let e : w.line ≡ c.args.setup.lines = omega arith in rw e at (moved-less 128 2048 (omega (arith, c.requires.0.fits.few-lines)) (omega (arith, c.requires.0.fits.few-lines)) w.invariant.1)
+returns c = let w = c.loop-line in let e : w.line ≡ c.args.setup.lines = omega arith in rw e at (moved-less 128 2048 (omega (arith, c.requires.ready.fits.few-lines)) (omega (arith, c.requires.ready.fits.few-lines)) w.invariant)

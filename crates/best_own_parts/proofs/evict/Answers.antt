@@ -5,13 +5,14 @@ use Rattle.best_own_parts.specs.Codes.{evicting_codes}
 use Rattle.best_own_parts.proofs.Moves.{moved_none}
 use Rattle.best_own_parts.proofs.evict.Goals as goal
 
-pub leave-requires : goal.leave-requires
-leave-requires c = (c.requires.0, c.requires.1, omega (arith, c.requires.0.small, c.if-b-setup.true))
-
-pub returns-then-b-setup : goal.returns-then-b-setup
+pub returns-in-Some : goal.returns-in-Some
 unfolding evicting_codes
-returns-then-b-setup c = let a = c.args in rw (← c.block_in_line-b.ensures, lt-ltb c.block_in_line-b.result a.setup.blocks c.if-b-setup.true) c.leave.ensures
+returns-in-Some c =
+    let a = c.args in
+    let found = c.in-Some.ensures in
+    rw (← found.value, lt-ltb c.in-Some.b a.setup.blocks found.bound) c.leave.ensures
 
-pub returns : goal.returns
+pub returns-in-None : goal.returns-in-None
 unfolding evicting_codes
-returns c = let a = c.args in rw (← c.block_in_line-b.ensures, le-ltb c.block_in_line-b.result a.setup.blocks c.if-b-setup.false) (moved_none a.setup a.asks.now 2 32 a.a a.numbers.now)
+returns-in-None c =
+    let a = c.args in rw (← c.in-None.ensures.value, le-ltb a.setup.blocks a.setup.blocks (omega arith)) (moved_none a.setup a.asks.now 2 32 a.a a.numbers.now)

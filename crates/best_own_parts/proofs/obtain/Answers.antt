@@ -11,14 +11,14 @@ unfolding obtaining_codes
 returns-then-holds_block c = let a = c.args in rw (sym c.holds_block.ensures ∙ c.if-holds_block.true) (moved_none a.setup a.asks.now 3 64 a.a a.numbers.now)
 
 pub line_of-line-requires : goal.line_of-line-requires
-line_of-line-requires c = (c.requires.0.fits.some-line, c.requires.0.fits.few-lines)
+line_of-line-requires c = (c.requires.ready.fits.some-line, c.requires.ready.fits.few-lines)
 
-pub evict-z-requires : goal.evict-z-requires
-evict-z-requires c = (ready-less c.requires.0 2 (omega arith), c.requires.1)
+pub evict-evicted-requires : goal.evict-evicted-requires
+evict-evicted-requires c = record { ready = ready-less c.requires.ready 2 (omega arith); processor = c.requires.processor }
 
 pub play_move-requires : goal.play_move-requires
-play_move-requires c = (ready_on c.requires.0 c.evict-z.ensures 1 (omega arith) (omega arith) (omega (arith, c.evict-z.ensures.layer, c.requires.0.position)), c.requires.1, c.requires.2)
+play_move-requires c = record { ready = ready_on c.requires.ready c.evict-evicted.ensures 1 (omega arith) (omega arith) (omega (arith, c.evict-evicted.ensures.layer, c.requires.ready.position)); processor = c.requires.processor; block = c.requires.block }
 
 pub returns : goal.returns
 unfolding obtaining_codes line_of
-returns c = let a = c.args in rw (sym c.holds_block.ensures ∙ c.if-holds_block.false, ← c.line_of-line.ensures) (moved_on c.evict-z.ensures c.play_move.ensures)
+returns c = let a = c.args in rw (sym c.holds_block.ensures ∙ c.if-holds_block.false, ← c.line_of-line.ensures) (moved_on c.evict-evicted.ensures c.play_move.ensures)

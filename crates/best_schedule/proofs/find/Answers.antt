@@ -35,13 +35,15 @@ write_schedule-count-requires c =
         c.requires.fits.0,
         c.requires.fits.1,
         few,
+      );
+      sized = (
         c.search-p.auto.predecessors ∙ c.requires.tables_fit.predecessors,
         omega (arith, c.search-p.auto.distances, long, length-drop (length n) c.args.distances.now, w.count, w.short, c.requires.tables_fit.distances),
       );
-      by_index = (
-        from-lt s asks steps own few no l.distances l.order l.predecessors c.search-p.result e,
-        goal-lt s asks steps own few no l.distances l.order l.predecessors c.search-p.result e,
-        way-fits s asks steps own few no l.distances l.order l.predecessors c.search-p.result e,
+      before = from-lt s asks steps own few no l.distances l.order l.predecessors c.search-p.result e;
+      goal = λ x. (
+        goal-lt s asks steps own few no l.distances l.order l.predecessors c.search-p.result e x,
+        way-fits s asks steps own few no l.distances l.order l.predecessors c.search-p.result e x,
       );
     }
 
@@ -58,8 +60,8 @@ returns c =
     let z = c.write_schedule-count.ensures in record {
       value =
           answer-is s asks steps own few w.cost l.distances l.order l.predecessors c.search-p.result e c.write_schedule-count.result c.search-p.result.used
-          c.excess.result _ z.0 c.search-p.ensures.count refl c.excess.ensures;
+          c.excess.result _ z.count c.search-p.ensures.count refl c.excess.ensures;
       tables =
           tables-are s asks steps own few w.cost l.distances l.order l.predecessors c.search-p.result e c.write_schedule-count.result
-          c.write_schedule-count.new.numbers l.lowest z.0 z.1 c.search-p.ensures.table;
+          c.write_schedule-count.new.numbers l.lowest z.count z.written c.search-p.ensures.table;
     }

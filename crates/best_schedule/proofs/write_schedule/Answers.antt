@@ -15,18 +15,22 @@ unfolding numbers_to
 returns-then-goal-eq-POSITION_COUNT c =
     let w = c.own_actions-own.ensures in
     rw (eq-eqb c.args.goal position_count c.if-goal-eq-POSITION_COUNT.true)
-    (w.count, w.numbers ∙ ap (λ k. own_numbers c.args.setup c.args.asks.now ++ drop k c.args.numbers.now) (sym w.count))
+    record { count = w.count; written = w.numbers ∙ ap (λ k. own_numbers c.args.setup c.args.asks.now ++ drop k c.args.numbers.now) (sym w.count) }
 
 pub way_length-count-requires : goal.way_length-count-requires
-way_length-count-requires c = (c.requires.fits.3, c.requires.by_index.0, c.requires.by_index.1 c.if-goal-eq-POSITION_COUNT.false)
+way_length-count-requires c = record { sized = c.requires.sized.0; before = c.requires.before; position = (c.requires.goal c.if-goal-eq-POSITION_COUNT.false).0 }
 
 pub write_way-requires : goal.write_way-requires
 write_way-requires c =
-    let n = c.way_length-count.ensures.0 in
-    (c.requires.fits.3, c.requires.by_index.0, c.requires.by_index.1 c.if-goal-eq-POSITION_COUNT.false, n, omega (arith, n, c.requires.by_index.2 c.if-goal-eq-POSITION_COUNT.false, c.requires.fits.4))
+    let n = c.way_length-count.ensures.value in
+    let way = c.requires.goal c.if-goal-eq-POSITION_COUNT.false in
+    record { sized = c.requires.sized.0; before = c.requires.before; position = way.0; count = n; room = omega (arith, n, way.1, c.requires.sized.1) }
 
 pub returns : goal.returns
 unfolding numbers_to
 returns c =
     rw (ne_eqb c.args.goal position_count c.if-goal-eq-POSITION_COUNT.false)
-    (c.way_length-count.ensures.0 ∙ sym (way-length-is c.args.setup c.args.asks.now c.args.predecessors.now c.args.goal), c.write_way.ensures c.args.setup c.args.asks.now)
+    record {
+      count = c.way_length-count.ensures.value ∙ sym (way-length-is c.args.setup c.args.asks.now c.args.predecessors.now c.args.goal);
+      written = c.write_way.ensures c.args.setup c.args.asks.now;
+    }

@@ -1,12 +1,9 @@
-use Prim.Native.Nat.{◌+◌, ◌-◌, ◌≤◌, ◌<◌}
-use mathlib.Core.Path.{◌≡◌}
+use Rattle.std.proofs.Common.{◌+◌, ◌-◌, ◌<◌, ◌≡◌}
 use Rattle.best_way.specs.Hops.{hops}
 use Rattle.best_way.proofs.way_length.Given as goal
 
 abbrev pub invariant-loop-n : goal.invariant-loop-n
-invariant-loop-n l =
-    (l.n ≤ 32401) × (l.u < 32400) × (l.n + hops (32401 - l.n) l.predecessors l.u ≡ hops 32401 l.predecessors l.v)
-
-abbrev pub decreases-loop-n : goal.decreases-loop-n
-decreases-loop-n l =
-    32401 - l.n
+invariant-loop-n l = record {
+  within : l.u < 32400;
+  rest : l.n + hops (32401 - l.n) l.predecessors l.u ≡ hops 32401 l.predecessors l.v;
+}
