@@ -1,7 +1,7 @@
 // The price of a rival's schedule for a list of requests, in records or in numbers.
 #![tactic(auto)]
 
-ghost use Rattle.std.specs.Prelude.{◌≡◌, ◌≤◌, ◌&&◌, cond, length, take, drop};
+ghost use Rattle.std.specs.Prelude.{◌≡◌, ◌≤◌, ◌&&◌, length, take, drop};
 ghost use Rattle.protocol_types.specs.Refusals.{number};
 ghost use Rattle.protocol_types.specs.Board.{Fits};
 ghost use Rattle.protocol_types.specs.Answers.{price_answer};
