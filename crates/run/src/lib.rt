@@ -2,16 +2,28 @@
 #![tactic(auto)]
 
 ghost use Rattle.std.specs.Prelude.{◌≡◌};
-ghost use Rattle.protocol_types.specs.Answers.{run_answer};
+ghost use Rattle.protocol_types.specs.Answers.{run_answer, ended_with};
 ghost use Rattle.protocol.specs.Lent.{lent_masked};
-ghost use Rattle.protocol.specs.Engines.{run as ran};
-ghost use Rattle.protocol.specs.Runs.{masked_engine};
+ghost use Rattle.protocol.specs.Engines.{answered};
+ghost use Rattle.protocol_types.specs.Refusals.{number};
 ghost use Rattle.run_progress.specs.Progress.{outcome};
+ghost use Rattle.run.specs.Stored.{run_stored};
 
-use protocol_types::{Account, Request, RunAnswer, Setup};
+use protocol_types::{Account, PlacedRefusal, Refusal, Request, RunAnswer, Setup};
+use stored_lists::Stores;
 
-// A run: the requests in turn, to the first refused one.
-pub fn run(
+// The answer of a run of which the request at `place`, or its start, is refused.
+fn refused_at(place: usize, refusal: Refusal) -> RunAnswer
+    ensures { run_answer result ≡ answered place (number refusal) place }
+{
+    RunAnswer {
+        taken: place,
+        refused: Some(PlacedRefusal { refusal, place }),
+    }
+}
+
+// A run: the requests in turn, to the first refused one. A list that is not whole is refused.
+pub fn run<C: Stores<Request>>(
     setup: Setup,
     blocks: &mut [u32],
     counters: &mut [u32],
@@ -20,38 +32,30 @@ pub fn run(
     memory: &mut [u32],
     masks: &mut [u8],
     account: &mut Account,
-    requests: &[Request],
+    requests: &[C],
     values: &mut [u32],
 ) -> RunAnswer
     ensures { outcome (run_answer result) (lent_masked blocks.new counters.new marks.new words.new memory.new masks.new) account.new values.new
-        ≡ ran (masked_engine setup) (lent_masked blocks.old counters.old marks.old words.old memory.old masks.old) account.old requests.now values.old }
+        ≡ run_stored setup (lent_masked blocks.old counters.old marks.old words.old memory.old masks.old) account.old (C.whole requests.now) (C.records requests.now) values.old }
 {
-    let mut p = run_steps::begin(
-        setup,
-        &*blocks,
-        &*counters,
-        &*marks,
-        &*words,
-        &*memory,
-        &*masks,
-        &*values,
-        *account,
-        requests.len(),
-    );
-    while p.going {
-        p = run_steps::turn(
-            setup,
-            blocks,
-            counters,
-            marks,
-            words,
-            memory,
-            masks,
-            values,
-            p,
-            requests[p.answer.taken],
-        );
+    let whole = C::is_whole(requests);
+    let count = C::count(requests);
+    if let Err(refusal) = run_steps::check(
+        setup, blocks, counters, marks, words, memory, masks, values, *account, whole, count,
+    ) {
+        return refused_at(0, refusal);
     }
-    run_progress::grow_lent(account, run_progress::growth(p));
-    p.answer
+    for i in 0..count {
+        let request = C::record_at(requests, i);
+        match run_steps::turn(
+            setup, blocks, counters, marks, words, memory, masks, account, request,
+        ) {
+            Ok(value) => values[i] = value,
+            Err(refusal) => return refused_at(i, refusal),
+        }
+    }
+    RunAnswer {
+        taken: count,
+        refused: None,
+    }
 }

@@ -48,7 +48,7 @@ run-passed s x a n vs e =
     let d = c.tables in
     let f = setup-fits s d.setup in
     let u = usable-sound s f x.tables (passed-sound s f x.tables d.sizes d.tables) in
-    record { fits = f; good = record { tables = u; masks = c.masks }; values = d.values; account = d.account }
+    record { ready = record { fits = f; good = record { tables = u; masks = c.masks }; account = d.account }; values = d.values }
 
 -- ---- each request is served
 

@@ -1,32 +1,38 @@
-// The covered halves of a run: what is checked before its first request, and one request.
+// The parts of a run: what is checked before its first request, and one request.
 #![tactic(auto)]
 
-ghost use Rattle.std.specs.Prelude.{◌≡◌};
-ghost use Rattle.protocol_types.specs.Refusals.{refusal_number};
+ghost use Rattle.std.specs.Prelude.{◌≡◌, MatchResult};
+ghost use Rattle.protocol_types.specs.Refusals.{number, refusal_number};
 ghost use Rattle.protocol.specs.Lent.{lent_masked};
-ghost use Rattle.protocol.specs.Runs.{masked_refusal, masked_engine};
+ghost use Rattle.protocol.specs.Runs.{masked_engine};
 ghost use Rattle.engine.specs.Usable.{UsableMasked};
-ghost use Rattle.run_progress.specs.Progress.{progress_of, begun, run_stage, Ready, turned};
+ghost use Rattle.run_progress.specs.Progress.{Ready, Taken, Refused};
+ghost use Rattle.run_steps.specs.Stored.{stored_refusal};
 
 use protocol_types::{Account, Refusal, Request, Setup};
-use run_progress::Progress;
 
-// Whether a run of `count` requests is refused before its first one: 1, 10, 2, 20, 21 in this order.
-fn run_refusal<'a>(
+// Whether a run of `count` requests is refused before its first one: 1, 10, 2, 20, 21 in this order. A list that is not
+// whole has a wrong length.
+#[tactic(auto, unfolding(protocol::specs::Runs::masked_refusal, host_decoding::specs::Records::partial_refusal))]
+pub fn check(
     setup: Setup,
-    blocks: &'a [u32],
-    counters: &'a [u32],
-    marks: &'a [u32],
-    words: &'a [u32],
-    memory: &'a [u32],
-    masks: &'a [u8],
-    values: &'a [u32],
+    blocks: &[u32],
+    counters: &[u32],
+    marks: &[u32],
+    words: &[u32],
+    memory: &[u32],
+    masks: &[u8],
+    values: &[u32],
     account: Account,
+    whole: bool,
     count: usize,
 ) -> Result<(), Refusal>
-    ensures { refusal_number result ≡ masked_refusal setup (lent_masked blocks.now counters.now marks.now words.now memory.now masks.now) account count values.now }
+    ensures { refusal_number result ≡ stored_refusal setup (lent_masked blocks.now counters.now marks.now words.now memory.now masks.now) account whole count values.now }
 {
     setup.check()?;
+    if !whole {
+        return Err(Refusal::WrongLength);
+    }
     if !engine_tables::lengths_fit(
         setup,
         blocks.len(),
@@ -50,55 +56,28 @@ fn run_refusal<'a>(
     Ok(())
 }
 
-// A run before its first request.
-pub fn begin<'a>(
+// One request: it is served and its bill entered, and its value is what it supplies or writes; or it is refused, and
+// nothing changes.
+pub fn turn(
     setup: Setup,
-    blocks: &'a [u32],
-    counters: &'a [u32],
-    marks: &'a [u32],
-    words: &'a [u32],
-    memory: &'a [u32],
-    masks: &'a [u8],
-    values: &'a [u32],
-    account: Account,
-    count: usize,
-) -> Progress
-    ensures { progress_of result ≡ begun (masked_refusal setup (lent_masked blocks.now counters.now marks.now words.now memory.now masks.now) account count values.now) account count }
-{
-    let checked = run_refusal(
-        setup, blocks, counters, marks, words, memory, masks, values, account, count,
-    );
-    run_progress::begin(checked, account, count)
-}
-
-// One request of a run: it is served, or the run stops.
-pub fn turn<'a>(
-    setup: Setup,
-    blocks: &'a mut [u32],
-    counters: &'a mut [u32],
-    marks: &'a mut [u32],
-    words: &'a mut [u32],
-    memory: &'a mut [u32],
-    masks: &'a mut [u8],
-    values: &'a mut [u32],
-    p: Progress,
+    blocks: &mut [u32],
+    counters: &mut [u32],
+    marks: &mut [u32],
+    words: &mut [u32],
+    memory: &mut [u32],
+    masks: &mut [u8],
+    account: &mut Account,
     request: Request,
-) -> Progress
-    requires { Ready setup (UsableMasked setup) (run_stage p (lent_masked blocks.old counters.old marks.old words.old memory.old masks.old) values.old) }
-    ensures { run_stage result (lent_masked blocks.new counters.new marks.new words.new memory.new masks.new) values.new
-        ≡ turned (masked_engine setup) (run_stage p (lent_masked blocks.old counters.old marks.old words.old memory.old masks.old) values.old) request }
+) -> Result<u32, Refusal>
+    requires { Ready setup (UsableMasked setup) (lent_masked blocks.old counters.old marks.old words.old memory.old masks.old) account.old }
+    ensures { MatchResult result
+        (λ v. Taken (masked_engine setup) (lent_masked blocks.old counters.old marks.old words.old memory.old masks.old) account.old request (lent_masked blocks.new counters.new marks.new words.new memory.new masks.new) account.new v)
+        (λ r. Refused (masked_engine setup) (lent_masked blocks.old counters.old marks.old words.old memory.old masks.old) account.old request (lent_masked blocks.new counters.new marks.new words.new memory.new masks.new) account.new (number r)) }
 {
-    let taken = p.answer.taken;
-    let count = values.len();
-    match setup.check_request(p.account.requests + taken as u32, request) {
-        Ok(()) => {
-            let served = engine::serve(
-                setup, request, blocks, counters, marks, words, memory, masks,
-            );
-            let next = taken + 1;
-            values[taken] = served.value;
-            run_progress::advance(p, served.bill, next, count)
-        }
-        Err(refusal) => run_progress::stop(p, refusal),
-    }
+    setup.check_request(account.requests, request)?;
+    let served = engine::serve(
+        setup, request, blocks, counters, marks, words, memory, masks,
+    );
+    run_progress::enter(account, served.bill);
+    Ok(served.value)
 }

@@ -1,50 +1,52 @@
--- By the laws of the loop in `run_steps`: `begin` and `turn` answer what the definitions say. That the account's fields are numbers of 32 bits is what the type of `begin`'s result says.
-use Rattle.std.proofs.Common.{◌≡◌, ℕ, ◌<◌, true, List, get_or, ap, sym, subst}
-use Rattle.protocol_types.specs.declared.Setup.{Setup}
-use Rattle.protocol_types.specs.declared.Request.{Request}
-use Rattle.protocol_types.specs.declared.Account.{Account}
-use Rattle.protocol_types.proofs.Conditions.{no-request}
+-- By the laws of the loop (Loop): `check` and `turn` answer what the definitions say.
+use native.Mathlib.Omega.{arith}
+use Rattle.std.proofs.Common.{◌≡◌, ap, sym, ◌∙◌, length}
+use Rattle.protocol_types.specs.Answers.{RunAnswer}
 use Rattle.protocol.specs.Lent.{lent_masked}
-use Rattle.protocol.specs.Masks.{Masked}
-use Rattle.protocol.specs.Runs.{masked_engine}
-use Rattle.run_progress.specs.Progress.{Progress, begun, RunStage, run_stage, turned}
-use Rattle.run_progress.proofs.Loop.{Small}
-use Rattle.run_steps.proofs.Loop.{Inv, μ, inv-start, inv-turn, inv-falls}
+use Rattle.run_progress.specs.Progress.{outcome}
+use Rattle.run_steps.specs.Stored.{stored_refusal}
+use Rattle.run.specs.Stored.{run_stored}
+use Rattle.run.proofs.Loop.{begins, never-begins, inv-end, inv-refused, inv-taken}
 use Rattle.run.proofs.run.Goals as goal
 
--- a stage that is the one after x
-module _ (s : Setup) (t : Masked) (a : Account) (qs : List Request) (vs : List ℕ) (x y : RunStage Masked) (e : y ≡ turned (masked_engine s) x (get_or qs x.progress.answer.taken no-request)) (i : Inv s t a qs vs x) (go : x.progress.going ≡ true) where
-  keeps : Inv s t a qs vs y
-  keeps = subst (Inv s t a qs vs) (sym e) (inv-turn s t a qs vs x i go)
-
-  falls : μ s t a qs vs y < μ s t a qs vs x
-  falls = subst (λ (z : RunStage Masked). μ s t a qs vs z < μ s t a qs vs x) (sym e) (inv-falls s t a qs vs x i go)
-
-pub loop-p-init : goal.loop-p-init
-unfolding begun
-loop-p-init c =
+pub returns-in-Err : goal.returns-in-Err
+returns-in-Err g c =
     let a = c.args in
-    let t = lent_masked a.blocks.now a.counters.now a.marks.now a.words.now a.memory.now a.masks.now in
-    let fits = c.begin-p.type_inv.1.1.1.0.1.1 in
-    subst (λ (p : Progress). Inv a.setup t a.account.now a.requests.now a.values.now (record { progress = p; tables = t; values = a.values.now })) (sym c.begin-p.ensures)
-    (inv-start a.setup t a.account.now a.requests.now a.values.now (subst Small (ap (λ (p : Progress). p.account) c.begin-p.ensures) (fits.0.1, (fits.1.0.1, (fits.1.1.0.1, fits.1.1.1.0.1)))))
+    let x = lent_masked a.blocks.now a.counters.now a.marks.now a.words.now a.memory.now a.masks.now in
+    ap (λ (r : RunAnswer). outcome r x a.account.now a.values.now) c.refused_at.ensures
+    ∙ never-begins a.setup x a.account.now (g.C.Stores.records a.requests.now) a.values.now (g.C.Stores.whole a.requests.now) c.in-Err.refusal
+    (c.in-Err.ensures ∙ (λ i. stored_refusal a.setup x a.account.now (c.is_whole-whole.ensures i) (c.count-count.ensures i) a.values.now))
 
-pub loop-p-smaller : goal.loop-p-smaller
-loop-p-smaller c =
+pub loop-i-init : goal.loop-i-init
+loop-i-init g c =
     let a = c.args in
-    let l = c.loop-p in
-    let n = c.turn-p.new in
-    falls a.setup (lent_masked a.blocks.now a.counters.now a.marks.now a.words.now a.memory.now a.masks.now) a.account.now a.requests.now a.values.now
-    (run_stage l.p (lent_masked l.blocks l.counters l.marks l.words l.memory l.masks) l.values)
-    (run_stage c.turn-p.result (lent_masked n.blocks n.counters n.marks n.words n.memory n.masks) n.values)
-    c.turn-p.ensures l.invariant c.loop-p-test.true
+    let x = lent_masked a.blocks.now a.counters.now a.marks.now a.words.now a.memory.now a.masks.now in
+    begins a.setup x a.account.now (g.C.Stores.records a.requests.now) a.values.now (g.C.Stores.whole a.requests.now)
+    (c.in_default.ensures ∙ (λ i. stored_refusal a.setup x a.account.now (c.is_whole-whole.ensures i) (c.count-count.ensures i) a.values.now))
 
-pub loop-p-preserved : goal.loop-p-preserved
-loop-p-preserved c =
+pub returns-in-Err-turn : goal.returns-in-Err-turn
+returns-in-Err-turn g c =
     let a = c.args in
-    let l = c.loop-p in
-    let n = c.turn-p.new in
-    keeps a.setup (lent_masked a.blocks.now a.counters.now a.marks.now a.words.now a.memory.now a.masks.now) a.account.now a.requests.now a.values.now
-    (run_stage l.p (lent_masked l.blocks l.counters l.marks l.words l.memory l.masks) l.values)
-    (run_stage c.turn-p.result (lent_masked n.blocks n.counters n.marks n.words n.memory n.masks) n.values)
-    c.turn-p.ensures l.invariant c.loop-p-test.true
+    let l = c.loop-i in
+    let n = c.turn.new in
+    let x = lent_masked a.blocks.now a.counters.now a.marks.now a.words.now a.memory.now a.masks.now in
+    let u = lent_masked n.blocks n.counters n.marks n.words n.memory n.masks in
+    let qs = g.C.Stores.records a.requests.now in
+    ap (λ (r : RunAnswer). outcome r u n.account l.values) c.refused_at-in-Err-turn.ensures
+    ∙ inv-refused a.setup qs (run_stored a.setup x a.account.now (g.C.Stores.whole a.requests.now) qs a.values.now)
+    l.i (lent_masked l.blocks l.counters l.marks l.words l.memory l.masks) l.account l.values l.invariant
+    c.record_at-request.result c.record_at-request.ensures u n.account c.in-Err-turn.refusal c.in-Err-turn.ensures
+
+pub loop-i-preserved : goal.loop-i-preserved
+loop-i-preserved g c =
+    let a = c.args in
+    let l = c.loop-i in
+    let n = c.turn.new in
+    let x = lent_masked a.blocks.now a.counters.now a.marks.now a.words.now a.memory.now a.masks.now in
+    let qs = g.C.Stores.records a.requests.now in
+    inv-taken a.setup qs (run_stored a.setup x a.account.now (g.C.Stores.whole a.requests.now) qs a.values.now)
+    l.i (lent_masked l.blocks l.counters l.marks l.words l.memory l.masks) l.account l.values l.invariant
+    c.record_at-request.result c.record_at-request.ensures (lent_masked n.blocks n.counters n.marks n.words n.memory n.masks) n.account c.in-Ok.value c.in-Ok.ensures
+
+pub returns : goal.returns
+returns g c = grind (arith, inv-end)

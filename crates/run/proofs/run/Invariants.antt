@@ -1,17 +1,12 @@
--- What is left to run from the stage is the whole run, as `run_steps` says of its loop; with each turn the requests that are left fall.
+-- What is left to run where i requests are taken is the whole run.
 use Rattle.protocol.specs.Lent.{lent_masked}
-use Rattle.run_progress.specs.Progress.{run_stage}
-use Rattle.run_steps.proofs.Loop.{Inv, μ}
+use Rattle.run.specs.Stored.{run_stored}
+use Rattle.run.proofs.Loop.{Inv}
 use Rattle.run.proofs.run.Given as goal
 
-abbrev pub invariant-loop-p : goal.invariant-loop-p
-invariant-loop-p l =
+abbrev pub invariant-loop-i : goal.invariant-loop-i
+invariant-loop-i g l =
     let f = l.fn in
-    Inv l.setup (lent_masked f.blocks f.counters f.marks f.words f.memory f.masks) f.account f.requests f.values
-    (run_stage l.p (lent_masked l.blocks l.counters l.marks l.words l.memory l.masks) l.values)
-
-abbrev pub decreases-loop-p : goal.decreases-loop-p
-decreases-loop-p l =
-    let f = l.fn in
-    μ l.setup (lent_masked f.blocks f.counters f.marks f.words f.memory f.masks) f.account f.requests f.values
-    (run_stage l.p (lent_masked l.blocks l.counters l.marks l.words l.memory l.masks) l.values)
+    let qs = g.C.Stores.records l.requests in
+    Inv l.setup qs (run_stored l.setup (lent_masked f.blocks f.counters f.marks f.words f.memory f.masks) f.account (g.C.Stores.whole l.requests) qs f.values)
+    l.i (lent_masked l.blocks l.counters l.marks l.words l.memory l.masks) l.account l.values

@@ -1,19 +1,12 @@
 -- The first condition met gives the number: each test by what it passed or failed, and the setup fits once it is not refused (setup-fits).
-use mathlib.Core.Path.{refl, sym, ◌∙◌}
-use borrow.Author.Tests.{eq-eqb, ne_eqb}
+use mathlib.Core.Path.{sym, ◌∙◌}
+use borrow.Author.Tests.{eq-eqb}
 use Rattle.protocol.specs.Tables.{tables}
 use Rattle.protocol.specs.Masks.{masked}
 use Rattle.protocol.specs.Runs.{masked_refusal}
 use Rattle.protocol_types.proofs.Board.{setup-fits}
-use Rattle.protocol_types.proofs.Refusals.{refusal-at_exit}
 use Rattle.engine_tables.proofs.Tests.{sized-is, passed-lengths}
-use Rattle.run_progress.proofs.Laws.{number_refuses}
-use Rattle.run_steps.proofs.run_refusal.Goals as goal
-
-pub returns-in_err-check : goal.returns-in_err-check
-unfolding masked_refusal
-returns-in_err-check c =
-    rw (sym c.in_err-check.ensures, number_refuses _) (refusal-at_exit _ _ c.from_residual.result c.from_residual.ensures.1 refl)
+use Rattle.run_steps.proofs.check.Goals as goal
 
 pub lengths_fit-requires : goal.lengths_fit-requires
 lengths_fit-requires c =
@@ -24,18 +17,7 @@ unfolding masked_refusal
 returns-then-not-lengths_fit c =
     let a = c.args in
     let x = masked (tables a.blocks.now a.counters.now a.marks.now a.words.now a.memory.now) a.masks.now in
-    rw (sym c.in_ok-check.ensures, sized-is a.setup x ∙ sym c.lengths_fit.ensures ∙ c.if-not-lengths_fit.true)
-
-pub returns-then-values-count : goal.returns-then-values-count
-unfolding masked_refusal
-returns-then-values-count c =
-    let a = c.args in
-    let x = masked (tables a.blocks.now a.counters.now a.marks.now a.words.now a.memory.now) a.masks.now in
-    rw (
-      sym c.in_ok-check.ensures,
-      sized-is a.setup x ∙ sym c.lengths_fit.ensures ∙ c.if-not-lengths_fit.false,
-      ne_eqb _ _ c.if-values-count.true,
-    )
+    rw (c.if-not-whole.false, sym c.in_ok-check.ensures, sized-is a.setup x ∙ sym c.lengths_fit.ensures ∙ c.if-not-lengths_fit.true)
 
 pub is_sound-requires : goal.is_sound-requires
 is_sound-requires c =
@@ -53,6 +35,7 @@ returns-then-not-is_sound c =
     let a = c.args in
     let x = masked (tables a.blocks.now a.counters.now a.marks.now a.words.now a.memory.now) a.masks.now in
     rw (
+      c.if-not-whole.false,
       sym c.in_ok-check.ensures,
       sized-is a.setup x ∙ sym c.lengths_fit.ensures ∙ c.if-not-lengths_fit.false,
       eq-eqb _ _ c.if-values-count.false,
@@ -70,6 +53,7 @@ returns-then-not-is_possible c =
     let a = c.args in
     let x = masked (tables a.blocks.now a.counters.now a.marks.now a.words.now a.memory.now) a.masks.now in
     rw (
+      c.if-not-whole.false,
       sym c.in_ok-check.ensures,
       sized-is a.setup x ∙ sym c.lengths_fit.ensures ∙ c.if-not-lengths_fit.false,
       eq-eqb _ _ c.if-values-count.false,
@@ -83,6 +67,7 @@ returns c =
     let a = c.args in
     let x = masked (tables a.blocks.now a.counters.now a.marks.now a.words.now a.memory.now) a.masks.now in
     rw (
+      c.if-not-whole.false,
       sym c.in_ok-check.ensures,
       sized-is a.setup x ∙ sym c.lengths_fit.ensures ∙ c.if-not-lengths_fit.false,
       eq-eqb _ _ c.if-values-count.false,
