@@ -1,30 +1,25 @@
 -- The loop of a run over what a list stores: run_progress' laws of any engine's, at what run_steps proves of this one, and how it begins. Assumes nothing.
 use Prim.Native.Nat.{ℕ, ◌+◌}
 use mathlib.Core.Path.{◌≡◌, refl, sym, ap}
-use mathlib.Core.Bool.{Bool, true, false}
+use mathlib.Core.Bool.{Bool, true, false, true≢false}
 use mathlib.Core.List.{List}
-use native.Mathlib.Omega.{arith}
 use lib.ListN.{length, set}
-use lib.Dec.{eqb}
 use Rattle.std.specs.Prelude.{Some, slice_get}
-use Rattle.protocol_types.specs.Refusals.{no_refusal, number, wrong_length}
-use Rattle.protocol_types.specs.Board.{setup_refusal}
+use Rattle.protocol_types.specs.Refusals.{no_refusal, number}
 use Rattle.protocol_types.specs.Conditions.{Valid}
 use Rattle.protocol_types.specs.declared.Refusal.{Refusal}
 use Rattle.protocol_types.specs.declared.Setup.{Setup}
 use Rattle.protocol_types.specs.declared.Request.{Request}
 use Rattle.protocol_types.specs.declared.Account.{Account}
-use Rattle.protocol_types.proofs.Refusals.{neither-refuses}
 use Rattle.protocol.specs.Masks.{Masked}
 use Rattle.protocol.specs.Engines.{Outcome, answered, run}
 use Rattle.protocol.specs.Runs.{masked_engine}
 use Rattle.engine.specs.Usable.{UsableMasked}
-use Rattle.host_decoding.specs.Records.{partial_refusal}
 use Rattle.run_progress.specs.Progress.{Taken, Refused, outcome}
 use Rattle.run_progress.proofs.Laws.{number_refuses}
 use Rattle.run_progress.proofs.Loop as any
 use Rattle.run_steps.specs.Stored.{stored_refusal}
-use Rattle.run_steps.proofs.Laws.{run-passed, serving}
+use Rattle.run_steps.proofs.Laws.{passed-whole, run-passed, serving}
 use Rattle.run.specs.Stored.{run_stored}
 
 module _ (s : Setup) (qs : List Request) (o : Outcome Masked) where
@@ -45,15 +40,11 @@ module _ (s : Setup) (qs : List Request) (o : Outcome Masked) where
 
 -- ---- before the first request
 
-never-partial : (s : Setup) → no_refusal ≡ partial_refusal s → ⊥
-unfolding partial_refusal
-never-partial s e = let d : ◌≡◌ {A = ℕ} wrong_length no_refusal = (neither-refuses (setup_refusal s) wrong_length (sym e)).1 in omega (arith, d)
-
 module _ (s : Setup) (x : Masked) (a : Account) (qs : List Request) (vs : List ℕ) where
   pub begins : (whole : Bool) → no_refusal ≡ stored_refusal s x a whole (length qs) vs → Inv s qs (run_stored s x a whole qs vs) 0 x a vs
   begins true e =
       any.inv-start s (masked_engine s) (UsableMasked s) (Valid s) (serving s) qs (run (masked_engine s) x a qs vs) x a vs refl (sym e) (run-passed s x a (length qs) vs (sym e))
-  begins false e = absurd (never-partial s e)
+  begins false e = absurd (true≢false (sym (passed-whole s false e).0))
 
   pub never-begins : (whole : Bool) (r : Refusal) → number r ≡ stored_refusal s x a whole (length qs) vs → outcome (answered 0 (number r) 0) x a vs ≡ run_stored s x a whole qs vs
   never-begins true r e =

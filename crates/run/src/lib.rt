@@ -2,7 +2,7 @@
 #![tactic(auto)]
 
 ghost use Rattle.std.specs.Prelude.{◌≡◌};
-ghost use Rattle.protocol_types.specs.Answers.{run_answer, ended_with};
+ghost use Rattle.protocol_types.specs.Answers.{run_answer};
 ghost use Rattle.protocol.specs.Lent.{lent_masked};
 ghost use Rattle.protocol.specs.Engines.{answered};
 ghost use Rattle.protocol_types.specs.Refusals.{number};
@@ -19,6 +19,16 @@ fn refused_at(place: usize, refusal: Refusal) -> RunAnswer
     RunAnswer {
         taken: place,
         refused: Some(PlacedRefusal { refusal, place }),
+    }
+}
+
+// The number and the place of what refused a run, for those who know numbers alone; 0 and 0 where nothing did.
+pub fn refusal_numbers(answer: RunAnswer) -> (u32, usize)
+    ensures { answered answer.taken result.0 result.1 ≡ run_answer answer }
+{
+    match answer.refused {
+        None => (0, 0),
+        Some(refused) => (refused.refusal.number(), refused.place),
     }
 }
 

@@ -12,8 +12,7 @@ ghost use Rattle.run_steps.specs.Stored.{stored_refusal};
 use protocol_types::{Account, Refusal, Request, Setup};
 
 // Whether a run of `count` requests is refused before its first one: 1, 10, 2, 20, 21 in this order. A list that is not
-// whole has a wrong length.
-#[tactic(auto, unfolding(protocol::specs::Runs::masked_refusal, host_decoding::specs::Records::partial_refusal))]
+// whole is refused by 2.
 pub fn check(
     setup: Setup,
     blocks: &[u32],
@@ -29,10 +28,7 @@ pub fn check(
 ) -> Result<(), Refusal>
     ensures { refusal_number result ≡ stored_refusal setup (lent_masked blocks.now counters.now marks.now words.now memory.now masks.now) account whole count values.now }
 {
-    setup.check()?;
-    if !whole {
-        return Err(Refusal::WrongLength);
-    }
+    host_decoding::check_whole(setup, whole)?;
     if !engine_tables::lengths_fit(
         setup,
         blocks.len(),

@@ -1,6 +1,6 @@
 -- By the laws of the loop (Loop): `check` and `turn` answer what the definitions say.
 use native.Mathlib.Omega.{arith}
-use Rattle.std.proofs.Common.{◌≡◌, ap, sym, ◌∙◌, length}
+use Rattle.std.proofs.Common.{ap, ◌∙◌}
 use Rattle.protocol_types.specs.Answers.{RunAnswer}
 use Rattle.protocol.specs.Lent.{lent_masked}
 use Rattle.run_progress.specs.Progress.{outcome}
