@@ -1,8 +1,8 @@
 -- What a request that is served leaves is ready for the next one, and the account has room for it: of any engine.
 -- Assumes nothing.
 use Prim.Native.Nat.{ℕ, ◌+◌, ◌≤◌, ◌<◌}
-use mathlib.Core.Path.{◌≡◌, refl, sym, subst}
-use mathlib.Core.Bool.{true, false}
+use mathlib.Core.Path.{◌≡◌, refl}
+use mathlib.Core.Bool.{false}
 use mathlib.Core.List.{List}
 use native.Mathlib.Omega.{arith}
 use lib.ListN.{length}
@@ -10,7 +10,7 @@ use lib.Dec.{eqb}
 use Rattle.protocol_types.specs.Refusals.{no_refusal, number}
 use Rattle.protocol_types.specs.Board.{Fits}
 use Rattle.protocol_types.specs.Conditions.{request_limit}
-use Rattle.protocol.specs.Accounts.{plus, entered, bill_of, possible, Spent}
+use Rattle.protocol.specs.Accounts.{plus, entered, bill_of, Spent}
 use Rattle.protocol.specs.Engines.{Engine}
 use Rattle.protocol_types.specs.declared.Refusal.{Refusal}
 use Rattle.protocol_types.specs.declared.Refusal.TheVariants.{SetupOutOfRange, WrongLength, NoSuchProcessor, NoSuchVariable, TooMany, MalformedLine, UnknownLabel, NoSuchBlock, BroadcastWithoutWrite, PriceOutOfRange, SeedZero, NotSearchable, UnsoundTables, ImpossibleAccount, AccountFull, LineInUse, BlockNotHeld, DropOfMarked, NoRequestLeft, CompletionNotHeld, RequestsLeft, CacheNotEmpty}
@@ -18,7 +18,7 @@ use Rattle.protocol_types.specs.declared.Setup.{Setup}
 use Rattle.protocol_types.specs.declared.Account.{Account}
 use Rattle.protocol.proofs.Accounts.{spent-plus, spent-numbers, possible-is, is-possible}
 use Rattle.protocol.proofs.Engines.{Serving}
-use Rattle.run_progress.specs.Progress.{Room, Ready, Taken}
+use Rattle.run_progress.specs.Progress.{Room, Ready}
 
 -- a refusal's number is not that of none
 pub number_refuses : (r : Refusal) → eqb (number r) no_refusal ≡ false

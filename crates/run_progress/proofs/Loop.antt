@@ -6,7 +6,7 @@ use mathlib.Core.List.{List, [], ◌∷◌, ◌++◌}
 use Prim.Native.Nat.{ℕ, suc, ◌+◌, ◌<◌, ◌≤◌}
 use native.Mathlib.Numerals.{add-one}
 use native.Mathlib.Omega.{arith}
-use lib.ListN.{length, set, get_or, take, drop, take-append-drop, length-set, drop_of_length-le}
+use lib.ListN.{length, set, take, drop, take-append-drop, length-set, drop_of_length-le}
 use lib.Seq.{length-take-le, drop-cons, take-suc-set, drop-set-lt}
 use lib.Dec.{eqb}
 use Rattle.std.specs.Prelude.{Some, slice_get}
