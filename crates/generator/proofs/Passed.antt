@@ -5,7 +5,7 @@ use mathlib.Core.Path.{◌≡◌, refl, sym, ap, ◌∙◌}
 use mathlib.Core.Bool.{Bool, true, false}
 use mathlib.Core.Logic.{◌≢◌}
 use mathlib.Core.List.{List}
-use lib.ListN.{length}
+use lib.ListN.{length, set, length-set}
 use borrow.Author.Tests.{ne_eqb}
 use Rattle.protocol_types.specs.Refusals.{no_refusal, number}
 use Rattle.protocol_types.specs.declared.Request.{Request}
@@ -84,3 +84,7 @@ one_more stored lent s seed k x l m q is-l is-x is-q is-m =
     let r : Request = request_after s (draw_after seed k) in
     rw (is-m, is-q, is-x, is-l, add-one k, workload-more s seed k)
     (ap (λ (i : ℕ). stored (filled stored lent (workload s seed k)) i r) (sym (length-workload s seed k)) ∙ sym (filled-more stored lent (workload s seed k) r))
+
+pub still_room : {A : Type 0} (records : List A → List Request) (l m : List A) (n i : ℕ) (q : Request) {t : List A}
+    → m ≡ t → records t ≡ set (records l) i q → length (records l) ≡ n → length (records m) ≡ n
+still_room records l m n i q is-m back room = rw (is-m, back) (length-set (records l) i q ∙ room)

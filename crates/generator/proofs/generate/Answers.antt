@@ -1,10 +1,9 @@
 -- A refusal leaves the list; else each turn stores one request more.
-use Rattle.std.proofs.Common.{◌≡◌, ◌∙◌, ◌<◌, sym, ap, refl, length, arith}
-use Rattle.std.proofs.Math.ListN.{length-set}
+use Rattle.std.proofs.Common.{◌≡◌, ◌∙◌, ◌<◌, sym, refl, length, arith}
 use Rattle.protocol_types.specs.Refusals.{no_refusal}
 use Rattle.protocol.proofs.Generator.{workload-zero}
 use Rattle.generator.specs.Lists.{list_refusal}
-use Rattle.generator.proofs.Passed.{goes_through, refused-stays, all-stored, all_drawn, last-drawn, one_more}
+use Rattle.generator.proofs.Passed.{goes_through, refused-stays, all-stored, all_drawn, last-drawn, one_more, still_room}
 use Rattle.generator.proofs.generate.Goals as goal
 
 pub returns-in_err-check-clause-list : goal.returns-in_err-check-clause-list
@@ -28,9 +27,7 @@ loop-i-preserved g c =
     record {
       front = one_more _ _ _ _ i x list _ q c.loop-i.invariant.front c.loop-i.invariant.drawn drawn c.store.ensures;
       drawn = last-drawn _ i x _ _ _ c.loop-i.invariant.drawn c.next_draw-first.ensures c.next_draw-second.ensures c.next_draw-third.ensures;
-      room =
-          ap (λ l. length (g.C.Stores.records l)) c.store.ensures ∙ ap length (g.met.C.Stores.reads_back list i q within)
-          ∙ length-set (g.C.Stores.records list) i q ∙ c.loop-i.invariant.room;
+      room = still_room g.C.Stores.records list _ _ i q c.store.ensures (g.met.C.Stores.reads_back list i q within) c.loop-i.invariant.room;
     }
 
 pub returns-clause-list : goal.returns-clause-list
