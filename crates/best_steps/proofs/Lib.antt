@@ -1,2 +1,3 @@
+pub mod Asks
 pub mod Checks
-pub mod Loop
+pub mod Entries

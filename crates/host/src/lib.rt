@@ -303,7 +303,7 @@ pub extern "C" fn cuzkelor_best(
         fetch_price,
         write_back_price,
     );
-    let answer = host_best::best(
+    let answer = best::best(
         setup,
         requests,
         distances,

@@ -89,7 +89,7 @@ pub(crate) fn ask(cells: &mut Cells, steps: u32) {
     let c = lent::lend(view, 2, &mut predecessors);
     let d = lent::lend(view, 3, &mut lowest);
     let e = lent::lend(view, 4, &mut schedule);
-    let answer = host_best::best(
+    let answer = best::best(
         setup,
         &requests[..n],
         &mut distances[..a],

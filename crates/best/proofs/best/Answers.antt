@@ -1,78 +1,88 @@
--- Each goal is a law of proofs/Loop.antt.
-use Prim.Native.Nat.{◌<◌}
-use mathlib.Core.Path.{sym, subst}
+-- Each end is a law of proofs/Search.antt.
+use mathlib.Core.Path.{◌∙◌}
+use mathlib.Core.Bool.{◌&&◌}
 use native.Mathlib.Omega.{arith}
-use lib.ListN.{set}
-use Rattle.best_positions.specs.Best.{SearchTables, search_tables}
-use Rattle.best_steps.specs.Steps.{BestProgress, BestStage, best_stage, stage_of}
-use Rattle.best.proofs.Loop.{FillingStage, filling_stage, Inv, μ, inv-start, asking, at_entry, inv-took, falls-took, inv-turned, falls-turned, inv-end}
+use lib.ListN.{length, length-take}
+use Rattle.std.proofs.lemmas.Result.{err_from_is_err_and}
+use Rattle.best_schedule.specs.Lent.{search_lent}
+use Rattle.best.proofs.Search.{checked-is, passes, lent-is, refused-first, refused-later, found-fits, found-ends}
 use Rattle.best.proofs.best.Goals as goal
 
-pub loop-p-init : goal.loop-p-init
-loop-p-init c =
+pub returns-in-Err : goal.returns-in-Err
+returns-in-Err g c =
     let a = c.args in
-    let x : SearchTables = search_tables a.distances.now a.order.now a.predecessors.now a.lowest.now in
-    subst (λ (v : BestStage). Inv a.setup a.requests.now x a.list.now a.steps (filling_stage v a.list.now)) (sym c.begin-p.ensures)
-    (inv-start a.setup a.requests.now x a.list.now a.steps)
+    let x = search_lent a.distances.now a.order.now a.predecessors.now a.lowest.now in
+    refused-first a.setup _ a.steps x _ g.D.Stores.stored a.list.now c.in-Err.refusal
+    (c.in-Err.ensures ∙ checked-is a.setup _ x _ _ _ _ c.count-count.ensures c.lengths_fit-fits.ensures c.entries_lent-entries.ensures)
 
-pub take-p-requires : goal.take-p-requires
-take-p-requires c =
+pub numbers_of-requires : goal.numbers_of-requires
+numbers_of-requires g c =
     let a = c.args in
-    let q = c.loop-p in
-    asking a.setup a.requests.now (search_tables a.distances.now a.order.now a.predecessors.now a.lowest.now) a.list.now a.steps
-    (filling_stage (stage_of q.p (search_tables q.distances q.order q.predecessors q.lowest)) q.list) q.invariant c.loop-p-test.true c.if-p.true
+    let x = search_lent a.distances.now a.order.now a.predecessors.now a.lowest.now in
+    let p = passes _ _ x _ _ _ _ c.count-count.ensures c.lengths_fit-fits.ensures c.entries_lent-entries.ensures c.in_default.ensures in
+    (p.fits, p.two, p.small, p.few)
 
-pub loop-p-smaller-then-p : goal.loop-p-smaller-then-p
-loop-p-smaller-then-p c =
+pub returns-in_err-asks : goal.returns-in_err-asks
+returns-in_err-asks g c =
     let a = c.args in
-    let q = c.loop-p in
-    let x : SearchTables = search_tables a.distances.now a.order.now a.predecessors.now a.lowest.now in
-    let w : FillingStage = filling_stage (stage_of q.p (search_tables q.distances q.order q.predecessors q.lowest)) q.list in
-    subst (λ (v : BestStage). μ a.setup a.requests.now x a.list.now a.steps (filling_stage v q.list) < μ a.setup a.requests.now x a.list.now a.steps w)
-    (sym c.take-p.ensures) (falls-took a.setup a.requests.now x a.list.now a.steps w q.invariant c.loop-p-test.true c.if-p.true)
+    let x = search_lent a.distances.now a.order.now a.predecessors.now a.lowest.now in
+    let p = passes _ _ x _ _ _ _ c.count-count.ensures c.lengths_fit-fits.ensures c.entries_lent-entries.ensures c.in_default.ensures in
+    let r = err_from_is_err_and c.from_residual.result c.from_residual.ensures.1 in
+    rw (r.1, r.2) (refused-later a.setup _ a.steps x _ g.D.Stores.stored a.list.now p.passed _ c.in_err-asks.ensures)
 
-pub loop-p-preserved-then-p : goal.loop-p-preserved-then-p
-loop-p-preserved-then-p c =
+pub slice_bounds-asks-end : goal.slice_bounds-asks-end
+slice_bounds-asks-end g c =
     let a = c.args in
-    let q = c.loop-p in
-    let x : SearchTables = search_tables a.distances.now a.order.now a.predecessors.now a.lowest.now in
-    let w : FillingStage = filling_stage (stage_of q.p (search_tables q.distances q.order q.predecessors q.lowest)) q.list in
-    subst (λ (v : BestStage). Inv a.setup a.requests.now x a.list.now a.steps (filling_stage v q.list)) (sym c.take-p.ensures)
-    (inv-took a.setup a.requests.now x a.list.now a.steps w q.invariant c.loop-p-test.true c.if-p.true)
+    let x = search_lent a.distances.now a.order.now a.predecessors.now a.lowest.now in
+    let p = passes _ _ x _ _ _ _ c.count-count.ensures c.lengths_fit-fits.ensures c.entries_lent-entries.ensures c.in_default.ensures in
+    omega (arith, p.few, c.count-count.ensures, c.in_ok-asks.ensures.many)
 
-pub bounds-list-p : goal.bounds-list-p
-bounds-list-p c =
+pub slice_bounds-find-end : goal.slice_bounds-find-end
+slice_bounds-find-end g c =
     let a = c.args in
-    let q = c.loop-p in
-    omega (
-      arith,
-      at_entry a.setup a.requests.now (search_tables a.distances.now a.order.now a.predecessors.now a.lowest.now) a.list.now a.steps
-          (filling_stage (stage_of q.p (search_tables q.distances q.order q.predecessors q.lowest)) q.list) q.invariant c.loop-p-test.true c.if-p.false,
-    )
+    let x = search_lent a.distances.now a.order.now a.predecessors.now a.lowest.now in
+    let p = passes _ _ x _ _ _ _ c.count-count.ensures c.lengths_fit-fits.ensures c.entries_lent-entries.ensures c.in_default.ensures in
+    omega (arith, p.few, c.count-count.ensures, c.in_ok-asks.ensures.many, length-take c.count-count.result c.in_ok-asks.asks)
 
-pub loop-p-smaller : goal.loop-p-smaller
-loop-p-smaller c =
+pub find-found-requires : goal.find-found-requires
+find-found-requires g c =
     let a = c.args in
-    let q = c.loop-p in
-    let x : SearchTables = search_tables a.distances.now a.order.now a.predecessors.now a.lowest.now in
-    let w : FillingStage = filling_stage (stage_of q.p (search_tables q.distances q.order q.predecessors q.lowest)) q.list in
-    subst
-    (λ (p : BestProgress). μ a.setup a.requests.now x a.list.now a.steps (filling_stage (best_stage p w.stage.tables) (set q.list q.p.at q.p.entry)) < μ a.setup a.requests.now x a.list.now a.steps w)
-    (sym c.turn-p.ensures) (falls-turned a.setup a.requests.now x a.list.now a.steps w q.invariant c.loop-p-test.true c.if-p.false)
+    let x = search_lent a.distances.now a.order.now a.predecessors.now a.lowest.now in
+    let p = passes _ _ x _ _ _ _ c.count-count.ensures c.lengths_fit-fits.ensures c.entries_lent-entries.ensures c.in_default.ensures in
+    record {
+      fits = (p.fits, p.small, omega (arith, p.few, c.count-count.ensures, c.in_ok-asks.ensures.many, length-take c.count-count.result c.in_ok-asks.asks));
+      tables_fit = p.tables;
+    }
 
-pub loop-p-preserved : goal.loop-p-preserved
-loop-p-preserved c =
+pub slice_bounds-store_entries-end : goal.slice_bounds-store_entries-end
+slice_bounds-store_entries-end g c =
     let a = c.args in
-    let q = c.loop-p in
-    let x : SearchTables = search_tables a.distances.now a.order.now a.predecessors.now a.lowest.now in
-    let w : FillingStage = filling_stage (stage_of q.p (search_tables q.distances q.order q.predecessors q.lowest)) q.list in
-    subst
-    (λ (p : BestProgress). Inv a.setup a.requests.now x a.list.now a.steps (filling_stage (best_stage p w.stage.tables) (set q.list q.p.at q.p.entry)))
-    (sym c.turn-p.ensures) (inv-turned a.setup a.requests.now x a.list.now a.steps w q.invariant c.loop-p-test.true c.if-p.false)
+    let x = search_lent a.distances.now a.order.now a.predecessors.now a.lowest.now in
+    let p = passes _ _ x _ _ _ _ c.count-count.ensures c.lengths_fit-fits.ensures c.entries_lent-entries.ensures c.in_default.ensures in
+    let f = found-fits a.setup _ a.steps x _ g.D.Stores.stored a.list.now p.passed _ c.in_ok-asks.ensures _ c.count-count.ensures _ c.find-found.ensures.value in
+    omega (arith, f, p.tables.distances, c.find-found.auto.distances)
+
+pub slice_bounds-store_entries-end-2 : goal.slice_bounds-store_entries-end-2
+slice_bounds-store_entries-end-2 g c =
+    let a = c.args in
+    let x = search_lent a.distances.now a.order.now a.predecessors.now a.lowest.now in
+    let p = passes _ _ x _ _ _ _ c.count-count.ensures c.lengths_fit-fits.ensures c.entries_lent-entries.ensures c.in_default.ensures in
+    let f = found-fits a.setup _ a.steps x _ g.D.Stores.stored a.list.now p.passed _ c.in_ok-asks.ensures _ c.count-count.ensures _ c.find-found.ensures.value in
+    omega (arith, f, p.tables.distances, c.find-found.auto.distances, length-take c.find-found.result.length c.find-found.new.distances)
+
+pub store_entries-requires : goal.store_entries-requires
+store_entries-requires g c =
+    let a = c.args in
+    let x = search_lent a.distances.now a.order.now a.predecessors.now a.lowest.now in
+    let p = passes _ _ x _ _ _ _ c.count-count.ensures c.lengths_fit-fits.ensures c.entries_lent-entries.ensures c.in_default.ensures in
+    let f = found-fits a.setup _ a.steps x _ g.D.Stores.stored a.list.now p.passed _ c.in_ok-asks.ensures _ c.count-count.ensures _ c.find-found.ensures.value in
+    omega (arith, f, lent-is (g.C.Stores.whole a.requests.now && g.D.Stores.whole a.list.now) (length (g.D.Stores.records a.list.now)) p.room, length-take c.find-found.result.length c.find-found.new.distances)
 
 pub returns : goal.returns
-returns c =
+returns g c =
     let a = c.args in
-    let q = c.loop-p in
-    inv-end a.setup a.requests.now (search_tables a.distances.now a.order.now a.predecessors.now a.lowest.now) a.list.now a.steps
-    (filling_stage (stage_of q.p (search_tables q.distances q.order q.predecessors q.lowest)) q.list) q.invariant c.loop-p-test.false
+    let x = search_lent a.distances.now a.order.now a.predecessors.now a.lowest.now in
+    let p = passes _ _ x _ _ _ _ c.count-count.ensures c.lengths_fit-fits.ensures c.entries_lent-entries.ensures c.in_default.ensures in
+    let n = c.find-found.new in
+    found-ends a.setup _ a.steps x _ g.D.Stores.stored a.list.now p.passed _ c.in_ok-asks.ensures _ c.count-count.ensures _ c.find-found.ensures.value
+    (search_lent n.distances n.order n.predecessors n.lowest) c.find-found.ensures.tables _ c.store_entries.ensures
