@@ -1,27 +1,15 @@
 -- The scan as a test of each processor, which is a test of each of its lines, and of each block's mask; by the definitions.
 -- Assumes nothing.
-use Prim.Native.Nat.{ℕ, ◌<◌}
-use mathlib.Core.Path.{◌≡◌, refl, sym, ◌∙◌}
-use mathlib.Core.Bool.{Bool, true, false}
-use native.Mathlib.Omega.{arith}
+use Prim.Native.Nat.{ℕ}
+use mathlib.Core.Path.{◌≡◌, refl}
+use mathlib.Core.Bool.{Bool}
 use lib.Dec.{eqb}
-use borrow.Author.Tests.{eq-eqb, ne_eqb}
 use Rattle.protocol_types.specs.Lists.{at, all}
 use Rattle.protocol_types.specs.Board.{line_slot}
 use Rattle.protocol.specs.Tables.{Tables}
 use Rattle.protocol.specs.Soundness.{sound_line, sound}
 use Rattle.protocol.specs.Masks.{Masked, holders_at, true_masks}
 use Rattle.protocol_types.specs.declared.Setup.{Setup}
-use Rattle.parts.proofs.Laws.{all-false}
-
--- ---- what a scan answers that goes on while numbers below n pass P, and is at i: at its end, and where it stopped
-
-module _ (P : ℕ → Bool) (n i : ℕ) where
-  pub scan-ended : i ≡ n → all i P ≡ true → eqb i n ≡ all n P
-  scan-ended z e = eq-eqb i n z ∙ sym (rw z at e)
-
-  pub scan-stopped : i < n → P i ≡ false → eqb i n ≡ all n P
-  scan-stopped h e = ne_eqb i n (λ (z : i ≡ n). omega arith) ∙ sym (all-false P n i h e)
 
 -- ---- the tests of line l of processor i, of processor i, and of block b's mask
 

@@ -12,22 +12,18 @@ ghost use Rattle.protocol.specs.Masks.{holders, true_masks, sound_masked};
 use protocol_types::{Block, Setup};
 
 // Whether the empty line at slot k is all 0.
+#[tactic(auto, unfolding(protocol::specs::Soundness::empty_line))]
 fn empty_line_sound(setup: Setup, k: usize, blocks: &[u32], marks: &[u32], words: &[u32]) -> bool
     requires fits { Fits setup }
     requires k_bound { k < slots setup }
     requires per_slot { PerSlot setup blocks.now × PerSlot setup marks.now × PerSlotWord setup words.now }
     ensures { (c g : List ℕ) → result ≡ empty_line setup (lent blocks.now c marks.now words.now g) k }
 {
-    if blocks[k] != 0 {
-        return false;
-    }
-    if marks[k] != 0 {
-        return false;
-    }
-    parts::zero_row(setup, k, words)
+    blocks[k] == 0 && marks[k] == 0 && parts::zero_row(setup, k, words)
 }
 
 // Whether the copy at slot k, of processor i, equals main memory if unmarked, and is full and alone if marked.
+#[tactic(auto, unfolding(protocol::specs::Soundness::copy_line))]
 fn copy_sound(
     setup: Setup,
     i: u32,
@@ -48,16 +44,13 @@ fn copy_sound(
     if marks[k] == 0 {
         return parts::same_row(setup, words, k, memory, block as usize);
     }
-    if marks[k] != 1 {
-        return false;
-    }
-    if counters[k] != setup.fetch_price() {
-        return false;
-    }
-    !engine_holders::shares(setup, i, Block(block), blocks, counters)
+    marks[k] == 1
+        && counters[k] == setup.fetch_price()
+        && !engine_holders::shares(setup, i, Block(block), blocks, counters)
 }
 
 // Whether line l of processor i is sound.
+#[tactic(auto, unfolding(protocol::specs::Soundness::sound_line))]
 fn line_sound(
     setup: Setup,
     i: u32,
@@ -77,17 +70,11 @@ fn line_sound(
     if counters[k] == 0 {
         return empty_line_sound(setup, k, blocks, marks, words);
     }
-    if counters[k] > setup.fetch_price() {
-        return false;
-    }
     let block = blocks[k];
-    if block >= setup.blocks {
-        return false;
-    }
-    if setup.line_of(Block(block)) != l {
-        return false;
-    }
-    copy_sound(setup, i, k, blocks, counters, marks, words, memory)
+    counters[k] <= setup.fetch_price()
+        && block < setup.blocks
+        && setup.line_of(Block(block)) == l
+        && copy_sound(setup, i, k, blocks, counters, marks, words, memory)
 }
 
 // Whether every line of every processor is sound.
@@ -103,20 +90,14 @@ fn lines_sound(
     requires sized { Sized setup (lent blocks.now counters.now marks.now words.now memory.now) }
     ensures { result ≡ sound setup (lent blocks.now counters.now marks.now words.now memory.now) }
 {
-    let n = setup.processors;
-    let m = setup.lines;
-    let mut i = 0;
-    'scan: while i < n {
-        let mut l = 0;
-        while l < m {
+    for i in 0..setup.processors {
+        for l in 0..setup.lines {
             if !line_sound(setup, i, l, blocks, counters, marks, words, memory) {
-                break 'scan;
+                return false;
             }
-            l += 1;
         }
-        i += 1;
     }
-    i == n
+    true
 }
 
 // A mask, with the weight of processor i added if it holds a block.
@@ -127,10 +108,11 @@ fn add_holder(setup: Setup, block: Block, mask: u8, i: u8, blocks: &[u32], count
     requires per_slot { PerSlot setup blocks.now × PerSlot setup counters.now }
     ensures { (m w g : List ℕ) → result ≡ mask + cond (holds setup (lent blocks.now counters.now m w g) i block) (2 ^ i) 0 }
 {
-    if !engine_holders::holds(setup, i as u32, block, blocks, counters) {
-        return mask;
+    if engine_holders::holds(setup, i as u32, block, blocks, counters) {
+        mask + bits::bit(i)
+    } else {
+        mask
     }
-    mask + bits::bit(i)
 }
 
 // The true mask of a block.
@@ -139,9 +121,8 @@ fn block_mask(setup: Setup, block: Block, blocks: &[u32], counters: &[u32]) -> u
     requires per_slot { PerSlot setup blocks.now × PerSlot setup counters.now }
     ensures { (m w g : List ℕ) → result ≡ holders setup (lent blocks.now counters.now m w g) block }
 {
-    let n = setup.processors as u8;
-    let mut mask: u8 = 0;
-    for i in 0..n {
+    let mut mask = 0;
+    for i in 0..setup.processors as u8 {
         mask = add_holder(setup, block, mask, i, blocks, counters);
     }
     mask
@@ -153,18 +134,16 @@ fn masks_true(setup: Setup, blocks: &[u32], counters: &[u32], masks: &[u8]) -> b
     requires per_slot { PerSlot setup blocks.now × PerSlot setup counters.now × (length masks.now ≡ setup.blocks) }
     ensures { (m w g : List ℕ) → result ≡ true_masks setup (lent_masked blocks.now counters.now m w g masks.now) }
 {
-    let n = setup.blocks;
-    let mut b = 0;
-    while b < n {
+    for b in 0..setup.blocks {
         if masks[b as usize] != block_mask(setup, Block(b), blocks, counters) {
-            break;
+            return false;
         }
-        b += 1;
     }
-    b == n
+    true
 }
 
 // Whether tables and masks are let through by condition 20.
+#[tactic(auto, unfolding(protocol::specs::Masks::sound_masked))]
 pub fn is_sound(
     setup: Setup,
     blocks: &[u32],
@@ -179,8 +158,6 @@ pub fn is_sound(
     requires masks_len { length masks.now ≡ setup.blocks }
     ensures { result ≡ sound_masked setup (lent_masked blocks.now counters.now marks.now words.now memory.now masks.now) }
 {
-    if !lines_sound(setup, blocks, counters, marks, words, memory) {
-        return false;
-    }
-    masks_true(setup, blocks, counters, masks)
+    lines_sound(setup, blocks, counters, marks, words, memory)
+        && masks_true(setup, blocks, counters, masks)
 }

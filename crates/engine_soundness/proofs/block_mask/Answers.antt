@@ -1,6 +1,6 @@
 -- At i the mask is that of the processors below i: one processor more adds its weight (mask-suc), and the mask stays a byte (mask-room).
 use Prim.Native.Nat.{◌+◌, ◌^◌, ◌<◌}
-use mathlib.Core.Path.{◌≡◌, refl, ◌∙◌}
+use mathlib.Core.Path.{◌≡◌, ◌∙◌}
 use mathlib.Core.List.{[]}
 use native.Mathlib.Numerals.{add-one}
 use native.Mathlib.Omega.{arith}
@@ -9,21 +9,18 @@ use Rattle.bits.proofs.Bits.{mask-suc, mask-room}
 use Rattle.std.proofs.Common.{rules}
 use Rattle.engine_soundness.proofs.block_mask.Goals as goal
 
-pub loop-i-init : goal.loop-i-init
-loop-i-init c = (omega arith, λ m w g. refl)
-
 pub add_holder-mask-requires : goal.add_holder-mask-requires
 add_holder-mask-requires c =
     let loop' = c.loop-i in
-    let room : loop'.mask + 2 ^ loop'.i < 256 = rw (loop'.invariant.1 [] [] []) (mask-room loop'.i _ (omega arith)) in
+    let room : loop'.mask + 2 ^ loop'.i < 256 = rw (loop'.invariant [] [] []) (mask-room loop'.i _ (omega arith)) in
     search rules
 
 pub loop-i-preserved : goal.loop-i-preserved
-loop-i-preserved c =
-    (omega arith, λ m w g. c.add_holder-mask.ensures m w g ∙ rw (add-one, mask-suc, c.loop-i.invariant.1 m w g))
+loop-i-preserved c m w g =
+    c.add_holder-mask.ensures m w g ∙ rw (add-one, mask-suc, c.loop-i.invariant m w g)
 
 pub returns : goal.returns
 unfolding holders
 returns c m w g =
     let e : c.loop-i.i ≡ c.args.setup.processors = omega arith in
-    c.loop-i.invariant.1 m w g ∙ rw e
+    c.loop-i.invariant m w g ∙ rw e
