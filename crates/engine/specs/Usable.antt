@@ -1,5 +1,5 @@
--- What the lent tables must be for a request to be served, the bill of getting a block, and reads and writes as accesses.
-use Rattle.std.specs.Prelude.{ℕ, ◌<◌, ◌≡◌}
+-- What the lent tables must be for a request to be served, the bill of getting a block, and reads and writes as one operation on a variable.
+use Rattle.std.specs.Prelude.{ℕ, ◌<◌, ◌≡◌, Option, Some, None}
 use Rattle.protocol.specs.Tables.{Tables, Sized, block}
 use Rattle.protocol.specs.Masks.{Masked, masks_of}
 use Rattle.protocol.specs.Rules.{fetch_cycles, write_back_cycles}
@@ -10,9 +10,6 @@ use Rattle.protocol_types.specs.declared.Bill.{Bill}
 use Rattle.protocol_types.specs.declared.Operation.{Operation}
 use Rattle.protocol_types.specs.declared.Operation.TheVariants.{Read, Write}
 use Rattle.protocol_types.specs.declared.Variable.{Variable}
-use Rattle.engine.specs.declared.Effect.{Effect}
-use Rattle.engine.specs.declared.Effect.TheVariants.{Supply, Store}
-use Rattle.engine.specs.declared.Access.{Access}
 
 -- tables of the right lengths, which name no block outside main memory and hold each in its proper line
 pub record Usable (s : Setup) (t : Tables) : Type 0 where
@@ -29,10 +26,7 @@ pub record UsableMasked (s : Setup) (x : Masked) : Type 0 where
 unfoldable pub obtain_bill : Setup → Tables → ℕ → Block → Bill
 obtain_bill s t i b = record { fetch = fetch_cycles s t i b; write_back = write_back_cycles s t i b; update = 0 }
 
--- the operation that an access is
-abbrev pub operation_by : Variable → Effect → Operation
-operation_by v Supply = Read v
-operation_by v (Store x) = Write v x
-
-abbrev pub operation_of : Access → Operation
-operation_of a = operation_by a.variable a.effect
+-- a read of a variable, or, where there is a value to store, a write of it
+abbrev pub operation_by : Variable → Option ℕ → Operation
+operation_by v None = Read v
+operation_by v (Some x) = Write v x

@@ -8,7 +8,7 @@ ghost use Rattle.protocol.specs.Masks.{masks_of};
 ghost use Rattle.protocol.specs.Rules.{obtained};
 ghost use Rattle.protocol_types.specs.Conditions.{Valid};
 ghost use Rattle.protocol.specs.Requests.{value_by, bill_by, served_by, value, bill, served};
-ghost use Rattle.engine.specs.Usable.{Usable, obtain_bill, operation_of};
+ghost use Rattle.engine.specs.Usable.{Usable, obtain_bill, operation_by};
 
 use engine_evictions::{clear, evict};
 use engine_holders::holds;
@@ -65,30 +65,17 @@ fn obtain(
     gain(block, processor, masks);
     Bill {
         fetch: setup.fetch_price(),
-        write_back: write_back,
+        write_back,
         update: 0,
     }
 }
 
-// What an access does with the variable's word, once the processor holds its block.
-#[derive(Clone, Copy)]
-enum Effect {
-    Supply,
-    Store(u32),
-}
-
-// An operation on one variable: a read or a write.
-#[derive(Clone, Copy)]
-struct Access {
-    variable: Variable,
-    effect: Effect,
-}
-
-// Processor i reads or writes a variable.
+// Processor i reads a variable, or, where there is a value to store, writes it.
 fn serve_access(
     setup: Setup,
     i: u32,
-    access: Access,
+    variable: Variable,
+    stored: Option<u32>,
     blocks: &mut [u32],
     counters: &mut [u32],
     marks: &mut [u32],
@@ -98,40 +85,31 @@ fn serve_access(
 ) -> Served
     requires fits { Fits setup }
     requires i_lt_processors { i < setup.processors }
-    requires variable_bound { access.variable.0 < variables setup }
+    requires variable_bound { variable.0 < variables setup }
     requires usable { Usable setup (lent blocks.old counters.old marks.old words.old memory.old) }
     requires true_masks { TrueMasks setup (lent blocks.old counters.old marks.old words.old memory.old) masks.old }
-    ensures value_value { result.value ≡ value_by setup (lent blocks.old counters.old marks.old words.old memory.old) i (operation_of access) }
-    ensures bill_value { result.bill ≡ bill_by setup (lent blocks.old counters.old marks.old words.old memory.old) i (operation_of access) }
-    ensures memory_value { lent blocks.new counters.new marks.new words.new memory.new ≡ served_by setup (lent blocks.old counters.old marks.old words.old memory.old) i (operation_of access) }
+    ensures value_value { result.value ≡ value_by setup (lent blocks.old counters.old marks.old words.old memory.old) i (operation_by variable stored) }
+    ensures bill_value { result.bill ≡ bill_by setup (lent blocks.old counters.old marks.old words.old memory.old) i (operation_by variable stored) }
+    ensures memory_value { lent blocks.new counters.new marks.new words.new memory.new ≡ served_by setup (lent blocks.old counters.old marks.old words.old memory.old) i (operation_by variable stored) }
     ensures masks_after { masks.new ≡ masks_of setup (lent blocks.new counters.new marks.new words.new memory.new) }
 {
-    let variable = access.variable;
-    let effect = access.effect;
     let block = setup.block_of(variable);
     let offset = setup.offset_of(variable);
     let bill = obtain(
         setup, i, block, blocks, counters, marks, words, memory, masks,
     );
-    match effect {
-        Effect::Supply => {
+    match stored {
+        None => {
             let word = word_of(setup, setup.slot(i, block), offset, words);
-            Served {
-                value: word,
-                bill: bill,
-            }
+            Served { value: word, bill }
         }
-        Effect::Store(value) => {
+        Some(value) => {
             let update = write(
                 setup, i, block, offset, value, blocks, counters, marks, words, memory, masks,
             );
             Served {
-                value: value,
-                bill: Bill {
-                    fetch: bill.fetch,
-                    write_back: bill.write_back,
-                    update: update,
-                },
+                value,
+                bill: Bill { update, ..bill },
             }
         }
     }
@@ -162,7 +140,7 @@ fn serve_clear(
         value: 0,
         bill: Bill {
             fetch: 0,
-            write_back: write_back,
+            write_back,
             update: 0,
         },
     }
@@ -188,16 +166,9 @@ pub fn serve(
     ensures memory_value { lent blocks.new counters.new marks.new words.new memory.new ≡ served setup (lent blocks.old counters.old marks.old words.old memory.old) request }
     ensures masks_after { masks.new ≡ masks_of setup (lent blocks.new counters.new marks.new words.new memory.new) }
 {
-    let operation = request.operation;
-    let access = match operation {
-        Operation::Read(variable) => Access {
-            variable: variable,
-            effect: Effect::Supply,
-        },
-        Operation::Write(variable, value) => Access {
-            variable: variable,
-            effect: Effect::Store(value),
-        },
+    let (variable, stored) = match request.operation {
+        Operation::Read(variable) => (variable, None),
+        Operation::Write(variable, value) => (variable, Some(value)),
         Operation::Clear => {
             return serve_clear(
                 setup,
@@ -214,7 +185,8 @@ pub fn serve(
     serve_access(
         setup,
         request.processor,
-        access,
+        variable,
+        stored,
         blocks,
         counters,
         marks,

@@ -1,20 +1,19 @@
--- By the two arms of a read and a write the access is the request's operation, which names its variable; the third is a clear.
-use Prim.Native.Nat.{◌<◌}
+-- By the two arms of a read and a write what is asked for is the request's operation, which names its variable; the third is a clear.
+use Prim.Native.Nat.{ℕ, ◌<◌}
+use Rattle.std.specs.Prelude.{Option, Some, None}
 use mathlib.Core.Path.{◌≡◌}
 use Rattle.protocol_types.specs.Board.{variables}
 use Rattle.protocol_types.specs.Conditions.{Named}
 use Rattle.protocol.specs.Requests.{value, bill, served}
 use Rattle.protocol_types.specs.declared.Setup.{Setup}
 use Rattle.protocol_types.specs.declared.Variable.{Variable}
-use Rattle.engine.specs.Usable.{operation_by, operation_of}
-use Rattle.engine.specs.declared.Effect.{Effect}
-use Rattle.engine.specs.declared.Effect.TheVariants.{Supply, Store}
+use Rattle.engine.specs.Usable.{operation_by}
 use Rattle.engine.proofs.serve.Goals as goal
 use Rattle.engine.proofs.serve.Goals.{in-Read, in-Write}
 
-variable-named : (s : Setup) (v : Variable) (e : Effect) → Named s (operation_by v e) → v.0 < variables s
-variable-named s v Supply h = h
-variable-named s v (Store x) h = h
+variable-named : (s : Setup) (v : Variable) (stored : Option ℕ) → Named s (operation_by v stored) → v.0 < variables s
+variable-named s v None h = h
+variable-named s v (Some x) h = h
 
 pub serve_clear-requires : goal.serve_clear-requires
 serve_clear-requires c =
@@ -40,14 +39,13 @@ pub serve_access-requires : goal.serve_access-requires
 serve_access-requires c =
     let a = c.args in
     let p = c.requires in
-    let access = c.match-operation.access in
-    let e : a.request.operation ≡ operation_of access =
-    elim c.match-operation.branch [ in-Read w ↦ rw w.access-is w.in-Read.is | in-Write w ↦ rw w.access-is w.in-Write.is ] in
-    let named : Named a.setup (operation_of access) = rw e at p.valid.operation in
+    let e : a.request.operation ≡ operation_by c.match-request.stored.0 c.match-request.stored.1 =
+    elim c.match-request.branch [ in-Read w ↦ rw w.stored-is w.in-Read.is | in-Write w ↦ rw w.stored-is w.in-Write.is ] in
+    let named : Named a.setup (operation_by c.match-request.stored.0 c.match-request.stored.1) = rw e at p.valid.operation in
     record {
       fits = p.fits;
       i_lt_processors = p.valid.processor;
-      variable_bound = variable-named a.setup access.variable access.effect named;
+      variable_bound = variable-named a.setup c.match-request.stored.0 c.match-request.stored.1 named;
       usable = p.usable;
       true_masks = p.true_masks;
     }
@@ -55,8 +53,8 @@ serve_access-requires c =
 pub returns : goal.returns
 unfolding value bill served
 returns c =
-    let e : c.args.request.operation ≡ operation_of c.match-operation.access =
-    elim c.match-operation.branch [ in-Read w ↦ rw w.access-is w.in-Read.is | in-Write w ↦ rw w.access-is w.in-Write.is ] in
+    let e : c.args.request.operation ≡ operation_by c.match-request.stored.0 c.match-request.stored.1 =
+    elim c.match-request.branch [ in-Read w ↦ rw w.stored-is w.in-Read.is | in-Write w ↦ rw w.stored-is w.in-Write.is ] in
     let d = c.serve_access.ensures in record {
       value_value = rw e d.value_value;
       bill_value = rw e d.bill_value;

@@ -16,7 +16,7 @@ obtain-bill-requires c =
     let p = c.requires in record {
       fits = p.fits;
       processor_lt_processors = p.i_lt_processors;
-      block_lt_blocks = rw c.block_of-block.ensures (block-lt a.setup p.fits a.access.variable p.variable_bound);
+      block_lt_blocks = rw c.block_of-block.ensures (block-lt a.setup p.fits a.variable p.variable_bound);
       usable = p.usable;
       true_masks = p.true_masks;
     }
@@ -33,7 +33,7 @@ word_of-word-requires c =
     let p = c.requires in
     rw (c.obtain-bill.auto.words ∙ p.usable.lengths.words)
     (word_index-lt a.setup p.fits c.slot.result (slots a.setup) c.offset_of-offset.result c.slot.ensures.within
-    (rw c.offset_of-offset.ensures (offset-lt a.setup p.fits a.access.variable)))
+    (rw c.offset_of-offset.ensures (offset-lt a.setup p.fits a.variable)))
 
 pub write-update-requires : goal.write-update-requires
 write-update-requires c =
@@ -46,17 +46,17 @@ write-update-requires c =
     let e = sym c.obtain-bill.ensures.memory_value in record {
       fits = p.fits;
       processor_lt_processors = p.i_lt_processors;
-      block_lt_blocks = rw c.block_of-block.ensures (block-lt s p.fits a.access.variable p.variable_bound);
-      offset_lt_words = rw c.offset_of-offset.ensures (offset-lt s p.fits a.access.variable);
+      block_lt_blocks = rw c.block_of-block.ensures (block-lt s p.fits a.variable p.variable_bound);
+      offset_lt_words = rw c.offset_of-offset.ensures (offset-lt s p.fits a.variable);
       block_value = subst (λ (x : Tables). holds s x a.i b ≡ true) e (obtained-holds s p.fits t z a.i b p.i_lt_processors);
       sized = subst (Sized s) e (sized-obtained s t z a.i b);
       true_masks = c.obtain-bill.ensures.masks_after;
     }
 
-pub returns-in-Supply : goal.returns-in-Supply
+pub returns-in-None : goal.returns-in-None
 unfolding obtain_bill
-returns-in-Supply c =
-    let e = c.in-Supply.is in
+returns-in-None c =
+    let e = c.in-None.is in
     let b = c.block_of-block.ensures in record {
       value_value = rw (e, ← b, ← c.offset_of-offset.ensures, ← c.obtain-bill.ensures.memory_value, ← c.slot.ensures.value) c.word_of-word.ensures;
       bill_value = rw (e, ← b) c.obtain-bill.ensures.value;
@@ -64,10 +64,10 @@ returns-in-Supply c =
       masks_after = c.obtain-bill.ensures.masks_after;
     }
 
-pub returns-in-Store : goal.returns-in-Store
+pub returns-in-Some : goal.returns-in-Some
 unfolding obtain_bill
-returns-in-Store c =
-    let e = c.in-Store.is in
+returns-in-Some c =
+    let e = c.in-Some.is in
     let b = c.block_of-block.ensures in record {
       value_value = rw e;
       bill_value = rw (e, ← b, ← c.obtain-bill.ensures.memory_value) (simp (c.obtain-bill.ensures.value, c.write-update.ensures.value));
