@@ -8,7 +8,7 @@ ghost use Rattle.best_own.specs.Own.{paying_codes, serving_codes, read_counters,
 ghost use Rattle.best_own.specs.Written.{OwnWritten};
 
 use best_moves::{CLEAR, holds_block, is_write};
-use best_own_parts::{Playing, clear, obtain, play_completion, play_drop};
+use best_own_parts::Playing;
 use protocol_types::Setup;
 
 // The engine's own actions: how many, and what they cost.
@@ -39,7 +39,7 @@ fn pay(
 {
     let payer = 1 - i;
     if holds_block(u, payer, b) && counters[4 * payer + b] == 1 {
-        play_drop(setup, asks, payer, b, a, numbers)
+        a.play_drop(setup, asks, payer, b, numbers)
     } else {
         a
     }
@@ -60,12 +60,12 @@ fn serve(
 {
     let i = ask % 2;
     if CLEAR <= ask {
-        let emptied = clear(setup, asks, i, a, numbers);
-        return play_completion(setup, asks, emptied, numbers);
+        let emptied = a.clear(setup, asks, i, numbers);
+        return emptied.play_completion(setup, asks, numbers);
     }
     let b = ask / 4;
-    let obtained = obtain(setup, asks, i, b, a, numbers);
-    let completed = play_completion(setup, asks, obtained, numbers);
+    let obtained = a.obtain(setup, asks, i, b, numbers);
+    let completed = obtained.play_completion(setup, asks, numbers);
     if is_write(ask) {
         return pay(setup, asks, a.position, counters, i, b, completed, numbers);
     }

@@ -18,142 +18,144 @@ pub struct Playing {
     pub cost: u32,
 }
 
-// ---- one entry
+impl Playing {
+    // ---- one entry
 
-// Entry k is played: its number is written.
-fn play(setup: Setup, asks: &[u32], a: Playing, k: usize, numbers: &mut [u32]) -> Playing
-    requires ready { Ready setup a numbers.old 1 }
-    requires entry { k < 18 }
-    ensures { Played setup asks.now k a result numbers.old numbers.new }
-{
-    numbers[a.length] = entry_number(a.position, k as u32);
-    Playing {
-        position: next_at(asks, a.position, k),
-        length: a.length + 1,
-        cost: a.cost + price_at(setup, asks, a.position, k),
+    // Entry k is played: its number is written.
+    fn play(self, setup: Setup, asks: &[u32], k: usize, numbers: &mut [u32]) -> Playing
+        requires ready { Ready setup self numbers.old 1 }
+        requires entry { k < 18 }
+        ensures { Played setup asks.now k self result numbers.old numbers.new }
+    {
+        numbers[self.length] = entry_number(self.position, k as u32);
+        Playing {
+            position: next_at(asks, self.position, k),
+            length: self.length + 1,
+            cost: self.cost + price_at(setup, asks, self.position, k),
+        }
     }
-}
 
-// Processor i fetches block b, or writes it back.
-fn play_move(
-    setup: Setup,
-    asks: &[u32],
-    i: usize,
-    b: usize,
-    a: Playing,
-    numbers: &mut [u32],
-) -> Playing
-    requires ready { Ready setup a numbers.old 1 }
-    requires processor { i < 2 }
-    requires block { b < 4 }
-    ensures { Moved setup asks.now (move_code i b ∷ []) 1 32 0 a result numbers.old numbers.new }
-{
-    play(setup, asks, a, 8 * i + 2 * b, numbers)
-}
-
-// Processor i drops block b.
-pub fn play_drop(
-    setup: Setup,
-    asks: &[u32],
-    i: usize,
-    b: usize,
-    a: Playing,
-    numbers: &mut [u32],
-) -> Playing
-    requires ready { Ready setup a numbers.old 1 }
-    requires processor { i < 2 }
-    requires block { b < 4 }
-    ensures { Moved setup asks.now (drop_code i b ∷ []) 1 0 0 a result numbers.old numbers.new }
-{
-    play(setup, asks, a, 8 * i + 2 * b + 1, numbers)
-}
-
-// The next request is completed.
-pub fn play_completion(setup: Setup, asks: &[u32], a: Playing, numbers: &mut [u32]) -> Playing
-    requires { Ready setup a numbers.old 1 }
-    ensures { Moved setup asks.now (complete_code ∷ []) 1 32 1 a result numbers.old numbers.new }
-{
-    play(setup, asks, a, COMPLETE, numbers)
-}
-
-// ---- the parts of a request, which found the engine at position u
-
-// Block b of processor i is written back if it is marked, then dropped.
-fn leave(
-    setup: Setup,
-    asks: &[u32],
-    u: usize,
-    i: usize,
-    b: usize,
-    a: Playing,
-    numbers: &mut [u32],
-) -> Playing
-    requires ready { Ready setup a numbers.old 2 }
-    requires processor { i < 2 }
-    requires block { b < 4 }
-    ensures { Moved setup asks.now (leaving_codes u i b) 2 32 0 a result numbers.old numbers.new }
-{
-    if digit_at(u, b) == 4 + i {
-        let written_back = play_move(setup, asks, i, b, a, numbers);
-        play_drop(setup, asks, i, b, written_back, numbers)
-    } else {
-        play_drop(setup, asks, i, b, a, numbers)
+    // Processor i fetches block b, or writes it back.
+    fn play_move(
+        self,
+        setup: Setup,
+        asks: &[u32],
+        i: usize,
+        b: usize,
+        numbers: &mut [u32],
+    ) -> Playing
+        requires ready { Ready setup self numbers.old 1 }
+        requires processor { i < 2 }
+        requires block { b < 4 }
+        ensures { Moved setup asks.now (move_code i b ∷ []) 1 32 0 self result numbers.old numbers.new }
+    {
+        self.play(setup, asks, 8 * i + 2 * b, numbers)
     }
-}
 
-// The block in a line of processor i leaves; an empty line needs no entry.
-fn evict(
-    setup: Setup,
-    asks: &[u32],
-    u: usize,
-    i: usize,
-    line: usize,
-    a: Playing,
-    numbers: &mut [u32],
-) -> Playing
-    requires ready { Ready setup a numbers.old 2 }
-    requires processor { i < 2 }
-    ensures { Moved setup asks.now (evicting_codes setup u i line) 2 32 0 a result numbers.old numbers.new }
-{
-    match block_in_line(setup, u, i, line) {
-        Some(b) => leave(setup, asks, u, i, b, a, numbers),
-        None => a,
+    // Processor i drops block b.
+    pub fn play_drop(
+        self,
+        setup: Setup,
+        asks: &[u32],
+        i: usize,
+        b: usize,
+        numbers: &mut [u32],
+    ) -> Playing
+        requires ready { Ready setup self numbers.old 1 }
+        requires processor { i < 2 }
+        requires block { b < 4 }
+        ensures { Moved setup asks.now (drop_code i b ∷ []) 1 0 0 self result numbers.old numbers.new }
+    {
+        self.play(setup, asks, 8 * i + 2 * b + 1, numbers)
     }
-}
 
-// Processor i gets block b, where it has no copy.
-pub fn obtain(
-    setup: Setup,
-    asks: &[u32],
-    i: usize,
-    b: usize,
-    a: Playing,
-    numbers: &mut [u32],
-) -> Playing
-    requires ready { Ready setup a numbers.old 3 }
-    requires processor { i < 2 }
-    requires block { b < 4 }
-    ensures { Moved setup asks.now (obtaining_codes setup a.position i b) 3 64 0 a result numbers.old numbers.new }
-{
-    let u = a.position;
-    if holds_block(u, i, b) {
-        return a;
+    // The next request is completed.
+    pub fn play_completion(self, setup: Setup, asks: &[u32], numbers: &mut [u32]) -> Playing
+        requires { Ready setup self numbers.old 1 }
+        ensures { Moved setup asks.now (complete_code ∷ []) 1 32 1 self result numbers.old numbers.new }
+    {
+        self.play(setup, asks, COMPLETE, numbers)
     }
-    let line = line_of(setup.lines as usize, b);
-    let evicted = evict(setup, asks, u, i, line, a, numbers);
-    play_move(setup, asks, i, b, evicted, numbers)
-}
 
-// Every line of processor i's cache is emptied, from line 0 up.
-pub fn clear(setup: Setup, asks: &[u32], i: usize, a: Playing, numbers: &mut [u32]) -> Playing
-    requires ready { Ready setup a numbers.old 128 }
-    requires processor { i < 2 }
-    ensures { Moved setup asks.now (clearing_codes setup a.position i setup.lines) 128 2048 0 a result numbers.old numbers.new }
-{
-    let u = a.position;
-    let mut cleared = a;
-    for line in 0..setup.lines as usize {
-        cleared = evict(setup, asks, u, i, line, cleared, numbers);
+    // ---- the parts of a request, which found the engine at position u
+
+    // Block b of processor i is written back if it is marked, then dropped.
+    fn leave(
+        self,
+        setup: Setup,
+        asks: &[u32],
+        u: usize,
+        i: usize,
+        b: usize,
+        numbers: &mut [u32],
+    ) -> Playing
+        requires ready { Ready setup self numbers.old 2 }
+        requires processor { i < 2 }
+        requires block { b < 4 }
+        ensures { Moved setup asks.now (leaving_codes u i b) 2 32 0 self result numbers.old numbers.new }
+    {
+        if digit_at(u, b) == 4 + i {
+            let written_back = self.play_move(setup, asks, i, b, numbers);
+            written_back.play_drop(setup, asks, i, b, numbers)
+        } else {
+            self.play_drop(setup, asks, i, b, numbers)
+        }
     }
-    cleared
+
+    // The block in a line of processor i leaves; an empty line needs no entry.
+    fn evict(
+        self,
+        setup: Setup,
+        asks: &[u32],
+        u: usize,
+        i: usize,
+        line: usize,
+        numbers: &mut [u32],
+    ) -> Playing
+        requires ready { Ready setup self numbers.old 2 }
+        requires processor { i < 2 }
+        ensures { Moved setup asks.now (evicting_codes setup u i line) 2 32 0 self result numbers.old numbers.new }
+    {
+        match block_in_line(setup, u, i, line) {
+            Some(b) => self.leave(setup, asks, u, i, b, numbers),
+            None => self,
+        }
+    }
+
+    // Processor i gets block b, where it has no copy.
+    pub fn obtain(
+        self,
+        setup: Setup,
+        asks: &[u32],
+        i: usize,
+        b: usize,
+        numbers: &mut [u32],
+    ) -> Playing
+        requires ready { Ready setup self numbers.old 3 }
+        requires processor { i < 2 }
+        requires block { b < 4 }
+        ensures { Moved setup asks.now (obtaining_codes setup self.position i b) 3 64 0 self result numbers.old numbers.new }
+    {
+        let u = self.position;
+        if holds_block(u, i, b) {
+            return self;
+        }
+        let line = line_of(setup.lines as usize, b);
+        let evicted = self.evict(setup, asks, u, i, line, numbers);
+        evicted.play_move(setup, asks, i, b, numbers)
+    }
+
+    // Every line of processor i's cache is emptied, from line 0 up.
+    pub fn clear(self, setup: Setup, asks: &[u32], i: usize, numbers: &mut [u32]) -> Playing
+        requires ready { Ready setup self numbers.old 128 }
+        requires processor { i < 2 }
+        ensures { Moved setup asks.now (clearing_codes setup self.position i setup.lines) 128 2048 0 self result numbers.old numbers.new }
+    {
+        let u = self.position;
+        let mut cleared = self;
+        for line in 0..setup.lines as usize {
+            cleared = cleared.evict(setup, asks, u, i, line, numbers);
+        }
+        cleared
+    }
 }

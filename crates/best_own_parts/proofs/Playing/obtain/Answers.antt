@@ -4,11 +4,11 @@ use native.Mathlib.Omega.{arith}
 use Rattle.protocol_types.specs.Board.{line_of}
 use Rattle.best_own_parts.specs.Codes.{obtaining_codes}
 use Rattle.best_own_parts.proofs.Moves.{moved_none, moved_on, ready-less, ready_on}
-use Rattle.best_own_parts.proofs.obtain.Goals as goal
+use Rattle.best_own_parts.proofs.Playing.obtain.Goals as goal
 
 pub returns-then-holds_block : goal.returns-then-holds_block
 unfolding obtaining_codes
-returns-then-holds_block c = let a = c.args in rw (sym c.holds_block.ensures ∙ c.if-holds_block.true) (moved_none a.setup a.asks.now 3 64 a.a a.numbers.now)
+returns-then-holds_block c = let a = c.args in rw (sym c.holds_block.ensures ∙ c.if-holds_block.true) (moved_none a.setup a.asks.now 3 64 a.self a.numbers.now)
 
 pub line_of-line-requires : goal.line_of-line-requires
 line_of-line-requires c = (c.requires.ready.fits.some-line, c.requires.ready.fits.few-lines)

@@ -6,7 +6,7 @@ use native.Mathlib.Omega.{arith}
 use Rattle.best_positions.specs.Position.{digit}
 use Rattle.best_own_parts.specs.Codes.{leaving_codes}
 use Rattle.best_own_parts.proofs.Moves.{moved-less, moved_on, ready_on}
-use Rattle.best_own_parts.proofs.leave.Goals as goal
+use Rattle.best_own_parts.proofs.Playing.leave.Goals as goal
 
 pub play_drop-requires : goal.play_drop-requires
 play_drop-requires c = record { ready = ready_on c.requires.ready c.play_move-written_back.ensures 1 (omega arith) (omega arith) (omega (arith, c.play_move-written_back.ensures.layer, c.requires.ready.position)); processor = c.requires.processor; block = c.requires.block }

@@ -4,10 +4,10 @@ use mathlib.Core.Path.{◌≡◌}
 use native.Mathlib.Omega.{arith}
 use native.Mathlib.Numerals.{add-one}
 use Rattle.best_own_parts.proofs.Moves.{moved-less, moved_none, moved_on, ready_on}
-use Rattle.best_own_parts.proofs.clear.Goals as goal
+use Rattle.best_own_parts.proofs.Playing.clear.Goals as goal
 
 pub loop-line-init : goal.loop-line-init
-loop-line-init c = let a = c.args in moved_none a.setup a.asks.now 0 0 a.a a.numbers.now
+loop-line-init c = let a = c.args in moved_none a.setup a.asks.now 0 0 a.self a.numbers.now
 
 pub evict-cleared-requires : goal.evict-cleared-requires
 evict-cleared-requires c = let w = c.loop-line in record { ready = ready_on c.requires.ready w.invariant 2 (omega (arith, c.requires.ready.fits.few-lines)) (omega arith) (omega (arith, w.invariant.layer, c.requires.ready.position)); processor = c.requires.processor }
