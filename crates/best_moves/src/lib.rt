@@ -4,7 +4,7 @@
 ghost use Rattle.std.specs.Prelude.{◌≡◌, Bool, true, ℕ, ◌%◌, ◌/◌, ◌<◌, ◌≤◌, length, eqb, unwrap_or, IfSome};
 ghost use Rattle.protocol_types.specs.Lists.{at};
 ghost use Rattle.protocol_types.specs.Board.{Fits};
-ghost use Rattle.best_positions.specs.Position.{weight, digit, with_digit, has, stands_in, in_line, holds_none, move_legal, moved_state, move_price, completion_legal, completed_state, completed, completion_price, legal_at, next_at, price_at, entry_number, entry_from};
+ghost use Rattle.best_positions.specs.Position.{weight, digit, with_digit, has, stands_in, in_line, holds_none, move_legal, moved_state, move_price, completion_legal, completed_state, completed, completion_price, legal_at, next_at, price_at, moving_processor, moved_block, is_drop, entry_number, entry_from};
 
 use protocol_types::{Block, Entry, Setup};
 
@@ -18,6 +18,9 @@ pub const CLEAR: usize = 16;
 pub const COMPLETE: usize = 16;
 
 const COMPLETE_BY_BROADCAST: usize = 17;
+
+// What a write-back's number has above that of a fetch of the block, where a number tells all of an entry.
+const WRITE_BACK: u32 = 18;
 
 // ---- the digits of a position
 
@@ -253,6 +256,15 @@ fn ask_at(asks: &[u32], n: usize) -> usize
     if n < asks.len() { asks[n] as usize } else { 0 }
 }
 
+// The processor and the block of entry k, a fetch, a write-back or a drop, and whether it is a drop.
+fn move_parts(k: usize) -> (usize, usize, bool)
+    ensures processor { result.0 ≡ moving_processor k }
+    ensures block { result.1 ≡ moved_block k }
+    ensures dropped { result.2 ≡ is_drop k }
+{
+    (k / 8, k / 2 % 4, k % 2 == 1)
+}
+
 // Whether entry k is legal at position u.
 #[tactic(auto, unfolding(best_positions::specs::Position::legal_at, best_positions::specs::Position::served_of))]
 pub fn legal_at(setup: Setup, asks: &[u32], u: usize, k: usize) -> bool
@@ -260,7 +272,8 @@ pub fn legal_at(setup: Setup, asks: &[u32], u: usize, k: usize) -> bool
     ensures { result ≡ legal_at setup asks.now u k }
 {
     if k < COMPLETE {
-        return move_legal(setup, u, k / 8, k / 2 % 4, k % 2 == 1);
+        let (i, b, dropped) = move_parts(k);
+        return move_legal(setup, u, i, b, dropped);
     }
     let n = u / LAYER_SIZE;
     n < asks.len() && completion_legal(u, ask_at(asks, n), k == COMPLETE_BY_BROADCAST)
@@ -273,8 +286,8 @@ pub fn next_at(asks: &[u32], u: usize, k: usize) -> usize
     ensures { result ≡ next_at asks.now u k }
 {
     if k < COMPLETE {
-        let b = k / 2 % 4;
-        return put_digit(u, b, moved_state(k / 8, digit_at(u, b), k % 2 == 1));
+        let (i, b, dropped) = move_parts(k);
+        return put_digit(u, b, moved_state(i, digit_at(u, b), dropped));
     }
     completed_position(u, ask_at(asks, u / LAYER_SIZE), k == COMPLETE_BY_BROADCAST)
 }
@@ -287,7 +300,8 @@ pub fn price_at(setup: Setup, asks: &[u32], u: usize, k: usize) -> u32
     ensures bound { result ≤ 32 }
 {
     if k < COMPLETE {
-        return move_price(setup, k / 8, digit_at(u, k / 2 % 4), k % 2 == 1);
+        let (i, b, dropped) = move_parts(k);
+        return move_price(setup, i, digit_at(u, b), dropped);
     }
     completion_price(u, ask_at(asks, u / LAYER_SIZE), k == COMPLETE_BY_BROADCAST)
 }
@@ -300,8 +314,9 @@ pub fn entry_number(u: usize, k: u32) -> u32
     ensures { result ≡ entry_number u k }
 {
     let n = k as usize;
-    if n < COMPLETE && n % 2 == 0 && holds_block(u, n / 8, n / 2 % 4) {
-        k + 18
+    let (i, b, dropped) = move_parts(n);
+    if n < COMPLETE && !dropped && holds_block(u, i, b) {
+        k + WRITE_BACK
     } else {
         k
     }
@@ -317,6 +332,6 @@ pub fn entry_from(n: u32) -> Entry
         0..=15 => Entry::Fetch(n / 8, Block(n / 2 % 4)),
         16 => Entry::Complete,
         17 => Entry::CompleteByBroadcast,
-        _ => Entry::WriteBack((n - 18) / 8, Block((n - 18) / 2 % 4)),
+        _ => Entry::WriteBack((n - WRITE_BACK) / 8, Block((n - WRITE_BACK) / 2 % 4)),
     }
 }
