@@ -370,7 +370,8 @@ pub extern "C" fn cuzkelor_count_trace(
     ensures { report_of (account_of account_requests.new account_fetch.new account_write_back.new account_update.new) result line.new (lent blocks.new counters.new marks.new words.new memory.new)
         ≡ ended_on (lent blocks.old counters.old marks.old words.old memory.old) bytes.now }
 {
-    let report = trace::count_trace(bytes, blocks, counters, marks, words, memory);
+    let counted = trace::count_trace(bytes, blocks, counters, marks, words, memory);
+    let report = trace_lines::answer_numbers(counted);
     *account_requests = report.account.requests;
     *account_fetch = report.account.fetch;
     *account_write_back = report.account.write_back;

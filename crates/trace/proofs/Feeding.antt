@@ -1,12 +1,12 @@
 -- The laws of `fed`: byte by byte along a line (`leading`, `behind`), line by line along a list, and chunk by chunk.
-use Prim.Native.Nat.{ℕ, suc, ◌+◌, ◌-◌, ◌≤◌, ◌<◌}
+use Prim.Native.Nat.{ℕ, suc, ◌+◌, ◌≤◌, ◌<◌}
 use native.Mathlib.Omega.{arith}
 use mathlib.Core.Path.{◌≡◌, refl, sym, ap, ◌∙◌}
 use mathlib.Core.Bool.{Bool, true, false}
 use mathlib.Core.List.{List, [], ◌∷◌, ◌++◌}
 use native.Mathlib.Numerals.{add-one}
-use lib.ListN.{length, take, drop, get_or, length-drop}
-use lib.Seq.{drop-cons, drop-length, drop-drop, take_all, take-length}
+use lib.ListN.{length, take, drop, get_or}
+use lib.Seq.{drop-cons, drop-length, take_all, take-length}
 use lib.Dec.{eqb}
 use borrow.Author.Tests.{not-true, not-false, eq-eqb}
 use Rattle.protocol_types.specs.Refusals.{no_refusal}
@@ -18,8 +18,8 @@ use Rattle.trace_scan.specs.Automaton.{with_bytes, scan_parsed}
 use Rattle.trace_scan.specs.declared.Line.{Line}
 use Rattle.trace_scan.proofs.Reading.{read-parsed}
 use Rattle.trace_lines.specs.Trace.{interpreted}
-use Rattle.trace_count.specs.Counting.{CountStage, count_stage, lengthened, line_ended, Countable, AtStart}
-use Rattle.trace_count.specs.declared.Count.{Count}
+use Rattle.trace_count.specs.Counting.{CountNumbers, CountStage, stage, lengthened, line_ended, Countable, AtStart}
+use Rattle.std.specs.Prelude.{Option}
 use Rattle.trace.specs.Feeding.{current_ended, extended, stepped, fed}
 use Rattle.trace.proofs.Laws.{countable-stepped, ended-as, counted-extended}
 
@@ -82,47 +82,35 @@ fed-line x s e z h k =
     ∙ ap (λ (v : CountStage). fed v (drop (suc e) s)) (newline-byte y (get_or s e 0) (eq-eqb _ _ z) (fails-at is_text s 0 e (h ∙ omega arith) k))
     ∙ ap (λ (n : ℕ). fed (current_ended y) (drop n s)) (sym (add-one e))
 
--- ---- from the start of a line at place i on, r being what is left
-
--- the part of a list from place i on
-pub rest_part : (s : List ℕ) (i : ℕ) → take (length s - i) (drop i s) ≡ drop i s
-rest_part s i = take_all (length s - i) (drop i s) (omega (arith, length-drop i s))
-
--- the next line starts within the list
-pub next-within : (s r : List ℕ) (i e : ℕ) → r ≡ drop i s → e < length r → i + e + 1 ≤ length s
-next-within s r i e q h = omega (arith, h, ap length q ∙ length-drop i s)
+-- ---- from the start of a line on
 
 -- a line that is cut
-pub fed-within : (x : CountStage) (s r : List ℕ) (i : ℕ) → AtStart x.count → r ≡ drop i s → length r ≤ length (leading is_text r)
-    → extended x r ≡ fed x (drop i s)
-fed-within x s r i a q h = sym (fed-cut x r a.refusal (omega (arith, h, leading-short is_text r))) ∙ ap (fed x) q
+pub fed-within : (x : CountStage) (s : List ℕ) → AtStart x.count → length s ≤ length (leading is_text s) → extended x s ≡ fed x s
+fed-within x s a h = sym (fed-cut x s a.refusal (omega (arith, h, leading-short is_text s)))
 
--- a line that ends at place e of the rest
-pub fed-whole : (x : CountStage) (s r : List ℕ) (i e : ℕ) (y : Parsed) → AtStart x.count → r ≡ drop i s → e ≡ length (leading is_text r) → e < length r
-    → y ≡ parsed (leading is_text r) → fed x (drop i s) ≡ fed (line_ended x y) (drop (i + e + 1) s)
-fed-whole x s r i e y a q h k p =
-    let l = leading is_text r in
-    let z : i + (e + 1) ≡ i + e + 1 = omega arith in
+-- a line that ends at place e
+pub fed-whole : (x : CountStage) (s : List ℕ) (e : ℕ) (y : Option Parsed) → AtStart x.count → e ≡ length (leading is_text s) → e < length s
+    → y ≡ parsed (leading is_text s) → fed x s ≡ fed (line_ended x y) (drop (e + 1) s)
+fed-whole x s e y a h k p =
+    let l = leading is_text s in
     let is_y : scan_parsed (with_bytes x.count.line l).scan ≡ y = ap (λ (m : Line). scan_parsed (with_bytes m l).scan) a.line ∙ read-parsed l ∙ sym p in
-    ap (fed x) (sym q)
-    ∙ fed-line x r e a.refusal h k
-    ∙ ap (λ (v : CountStage). fed v (drop (e + 1) r)) (ended-as (extended x l) y is_y ∙ counted-extended x l (interpreted x.count.line_number y))
-    ∙ ap (fed (line_ended x y)) (ap (drop (e + 1)) q ∙ drop-drop (e + 1) i s ∙ ap (λ (n : ℕ). drop n s) z)
+    fed-line x s e a.refusal h k
+    ∙ ap (λ (v : CountStage). fed v (drop (e + 1) s)) (ended-as (extended x l) y is_y ∙ counted-extended x l (interpreted x.count.line_number y))
 
 -- ---- from within a line on, whose newline, or the bytes' end, stands at place e; c is the count with the bytes before it
 
-module _ (x : CountStage) (s : List ℕ) (e : ℕ) (c : Count) (z : x.count.refusal ≡ no_refusal) (h : EndsAt is_text s 0 e) (p : c ≡ lengthened x.count (take e s)) where
+module _ (x : CountStage) (s : List ℕ) (e : ℕ) (c : CountNumbers) (z : x.count.refusal ≡ no_refusal) (h : EndsAt is_text s 0 e) (p : c ≡ lengthened x.count (take e s)) where
   -- the line is cut
-  pub fed-more : length s ≤ e → count_stage c x.tables ≡ fed x s
+  pub fed-more : length s ≤ e → stage c x.tables ≡ fed x s
   fed-more k =
       let all : take e s ≡ s = take_all e s k in
       simp (p, all) (sym (fed-cut x s z (omega (arith, h, k, leading-short is_text s))))
 
   -- it ends
-  pub fed-ends : (y : Parsed) → e < length s → y ≡ scan_parsed c.line.scan → fed x s ≡ fed (line_ended (count_stage c x.tables) y) (drop (e + 1) s)
+  pub fed-ends : (y : Option Parsed) → e < length s → y ≡ scan_parsed c.line.scan → fed x s ≡ fed (line_ended (stage c x.tables) y) (drop (e + 1) s)
   fed-ends y k q =
       let n : e ≡ length (leading is_text s) = omega (arith, h) in
       let same : lengthened x.count (leading is_text s) ≡ c = ap (lengthened x.count) (sym (take-leading is_text s) ∙ ap (λ (m : ℕ). take m s) (sym n)) ∙ sym p in
       fed-line x s e z n k
-      ∙ ap (λ (v : Count). fed (current_ended (count_stage v x.tables)) (drop (e + 1) s)) same
-      ∙ ap (λ (v : CountStage). fed v (drop (e + 1) s)) (ended-as (count_stage c x.tables) y (sym q))
+      ∙ ap (λ (v : CountNumbers). fed (current_ended (stage v x.tables)) (drop (e + 1) s)) same
+      ∙ ap (λ (v : CountStage). fed v (drop (e + 1) s)) (ended-as (stage c x.tables) y (sym q))

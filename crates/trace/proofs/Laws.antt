@@ -23,11 +23,12 @@ use Rattle.trace_din.specs.Lines.{newline}
 use Rattle.trace_din.specs.declared.Parsed.{Parsed}
 use Rattle.trace_scan.specs.Automaton.{scan_parsed}
 use Rattle.trace_lines.specs.Trace.{trace_setup, ended, ended_on}
-use Rattle.trace_lines.specs.declared.Meaning.{Meaning}
-use Rattle.trace_lines.specs.declared.Report.{Report}
+use Rattle.trace_lines.specs.declared.ReportNumbers.{ReportNumbers}
+use Rattle.std.specs.Prelude.{Option, Result}
+use Rattle.protocol_types.specs.declared.Refusal.{Refusal}
+use Rattle.protocol_types.specs.declared.Request.{Request}
 use Rattle.trace_lines.proofs.Laws.{trace-passes}
-use Rattle.trace_count.specs.Counting.{CountStage, count_stage, fresh_count, lengthened, line_counted, line_ended, reported, Countable}
-use Rattle.trace_count.specs.declared.Count.{Count}
+use Rattle.trace_count.specs.Counting.{CountNumbers, CountStage, stage, fresh_count, lengthened, line_counted, line_ended, reported, Countable}
 use Rattle.trace_count.proofs.Laws.{countable-counted}
 use Rattle.trace.specs.Feeding.{current_ended, extended, stepped, closed, reporting, finished}
 
@@ -44,32 +45,32 @@ countable-stepped x b r =
     (λ e. choice Countable (eqb b newline) (λ e. countable-ended x r) (λ e. record { account = r.account; line-number = r.line-number; tables = r.tables })) (λ e. r)
 
 -- with more bytes of the current line
-pub countable-lengthened : (x : CountStage) (c : Count) (l : List ℕ) → c ≡ lengthened x.count l → Countable x → Countable (count_stage c x.tables)
+pub countable-lengthened : (x : CountStage) (c : CountNumbers) (l : List ℕ) → c ≡ lengthened x.count l → Countable x → Countable (stage c x.tables)
 countable-lengthened x c l e r = rw e (record { account = r.account; line-number = r.line-number; tables = r.tables })
 
 -- ---- a line ends
 
-pub ended-as : (x : CountStage) (y : Parsed) → scan_parsed x.count.line.scan ≡ y → current_ended x ≡ line_ended x y
+pub ended-as : (x : CountStage) (y : Option Parsed) → scan_parsed x.count.line.scan ≡ y → current_ended x ≡ line_ended x y
 unfolding current_ended
 ended-as x y e = ap (line_ended x) e
 
 -- what it asks for tells all of it
-pub counted-extended : (x : CountStage) (l : List ℕ) (y : Meaning) → line_counted (extended x l) y ≡ line_counted x y
+pub counted-extended : (x : CountStage) (l : List ℕ) (y : Result Request Refusal) → line_counted (extended x l) y ≡ line_counted x y
 unfolding line_counted
 counted-extended x l y = refl
 
 -- ---- the end of the input: after a refusal, between two lines, and within a line
 
-pub finished-refused : (x : CountStage) (r : Report) → (x.count.refusal ≡ no_refusal → ⊥) → r ≡ reported x.count → reporting r x.tables ≡ finished x
+pub finished-refused : (x : CountStage) (r : ReportNumbers) → (x.count.refusal ≡ no_refusal → ⊥) → r ≡ reported x.count → reporting r x.tables ≡ finished x
 unfolding finished closed
 finished-refused x r d e = simp (e, ne_eqb _ _ d)
 
-pub finished-between : (x : CountStage) (r : Report) → x.count.refusal ≡ no_refusal → x.count.line.width ≡ 0 → r ≡ reported x.count
+pub finished-between : (x : CountStage) (r : ReportNumbers) → x.count.refusal ≡ no_refusal → x.count.line.width ≡ 0 → r ≡ reported x.count
     → reporting r x.tables ≡ finished x
 unfolding finished closed
 finished-between x r d z e = simp (e, eq-eqb _ _ d, eq-eqb _ _ z)
 
-pub finished-within : (x : CountStage) (r : Report) (y : CountStage) → x.count.refusal ≡ no_refusal → (x.count.line.width ≡ 0 → ⊥) → y ≡ current_ended x
+pub finished-within : (x : CountStage) (r : ReportNumbers) (y : CountStage) → x.count.refusal ≡ no_refusal → (x.count.line.width ≡ 0 → ⊥) → y ≡ current_ended x
     → r ≡ reported y.count → reporting r y.tables ≡ finished x
 unfolding finished closed
 finished-within x r y d z p e = simp (e, eq-eqb _ _ d, ne_eqb _ _ z, p)
@@ -84,15 +85,15 @@ usable-fresh = record {
   proper = λ k h p. absurd (omega (arith, at-zeros (slots trace_setup) k, p));
 }
 
-countable-fresh : Countable (count_stage fresh_count (fresh trace_setup))
+countable-fresh : Countable (stage fresh_count (fresh trace_setup))
 countable-fresh = record { account = spent-none trace_setup; line-number = omega arith; tables = usable-fresh }
 
 -- the first stage of a trace on fresh tables
-module _ (c : Count) (t : Tables) (p : c ≡ fresh_count) (q : t ≡ fresh trace_setup) where
-  pub first-stage : count_stage c t ≡ count_stage fresh_count (fresh trace_setup)
+module _ (c : CountNumbers) (t : Tables) (p : c ≡ fresh_count) (q : t ≡ fresh trace_setup) where
+  pub first-stage : stage c t ≡ stage fresh_count (fresh trace_setup)
   first-stage = simp (p, q)
 
-  pub countable-first : Countable (count_stage c t)
+  pub countable-first : Countable (stage c t)
   countable-first = rw first-stage countable-fresh
 
 -- what starting leaves: fresh tables with true masks

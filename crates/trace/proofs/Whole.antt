@@ -16,8 +16,10 @@ use Rattle.trace_din.specs.Lines.{newline, ahead, lines_of, parsed}
 use Rattle.trace_scan.specs.Automaton.{new_line, with_bytes}
 use Rattle.trace_scan.proofs.Reading.{read-parsed, read_more, width_some}
 use Rattle.trace_lines.specs.Trace.{trace_setup, interpreted, line_refusal, after_line, Ended, ended_at, traced, ended}
-use Rattle.trace_lines.specs.declared.Meaning.{Meaning}
-use Rattle.trace_count.specs.Counting.{CountStage, count_stage, state_of, fresh_count, line_refused, going_on, line_counted, reported}
+use Rattle.std.specs.Prelude.{Result}
+use Rattle.protocol_types.specs.declared.Refusal.{Refusal}
+use Rattle.protocol_types.specs.declared.Request.{Request}
+use Rattle.trace_count.specs.Counting.{CountStage, stage, state_of, fresh_count, line_refused, going_on, line_counted, reported}
 use Rattle.trace.specs.Feeding.{current_ended, extended, stepped, fed, closed, reporting, finished}
 use Rattle.trace.proofs.Laws.{ended-as, counted-extended}
 use Rattle.trace.proofs.Feeding.{refused-stays}
@@ -54,7 +56,7 @@ abbrev told : CountStage → Ended
 told x = reporting (reported x.count) x.tables
 
 -- a line that asks for y ends, after the stage x
-module _ (x : CountStage) (y : Meaning) where
+module _ (x : CountStage) (y : Result Request Refusal) where
   abbrev refusal : ℕ
   refusal = line_refusal (state_of x) y
 
@@ -66,7 +68,7 @@ module _ (x : CountStage) (y : Meaning) where
   last_line false e = simp e
 
   refused-finished : eqb refusal no_refusal ≡ false
-      → finished (count_stage (line_refused refusal x.count) x.tables) ≡ ended_at (state_of x) refusal x.count.line_number
+      → finished (stage (line_refused refusal x.count) x.tables) ≡ ended_at (state_of x) refusal x.count.line_number
   unfolding finished closed reported
   refused-finished e = simp e
 
@@ -79,7 +81,7 @@ module _ (x : CountStage) (y : Meaning) where
   unfolding line_counted
   more-lines bs ih true e = simp e (ih (after_line (state_of x) y))
   more-lines bs ih false e =
-      simp e (ap finished (refused-stays (count_stage (line_refused refusal x.count) x.tables) bs e) ∙ refused-finished e)
+      simp e (ap finished (refused-stays (stage (line_refused refusal x.count) x.tables) bs e) ∙ refused-finished e)
 
 -- within line n after the state w
 module _ (n : ℕ) (w : State Tables) where
@@ -134,6 +136,6 @@ whole [] = whole-none
 whole (b ∷ bs) = whole-more b bs (whole bs) (eqb b newline) refl
 
 -- fed from the start, and finished: the report and the tables of the definition by lines
-pub fed-ended : (bs : List ℕ) → finished (fed (count_stage fresh_count (fresh trace_setup)) bs) ≡ ended bs
+pub fed-ended : (bs : List ℕ) → finished (fed (stage fresh_count (fresh trace_setup)) bs) ≡ ended bs
 unfolding ended
 fed-ended bs = whole bs [] 1 (opening trace_setup fresh_account)

@@ -5,8 +5,8 @@ use Rattle.protocol.specs.Tables.{Tables}
 use Rattle.trace_din.specs.Lines.{newline}
 use Rattle.trace_scan.specs.Automaton.{scan_parsed}
 use Rattle.trace_lines.specs.Trace.{Ended}
-use Rattle.trace_lines.specs.declared.Report.{Report}
-use Rattle.trace_count.specs.Counting.{CountStage, count_stage, lengthened, line_ended, reported}
+use Rattle.trace_lines.specs.declared.ReportNumbers.{ReportNumbers}
+use Rattle.trace_count.specs.Counting.{CountStage, stage, lengthened, line_ended, reported}
 
 -- ---- bytes
 
@@ -16,7 +16,7 @@ current_ended x = line_ended x (scan_parsed x.count.line.scan)
 
 -- more bytes of the current line
 abbrev pub extended : CountStage → List ℕ → CountStage
-extended x l = count_stage (lengthened x.count l) x.tables
+extended x l = stage (lengthened x.count l) x.tables
 
 -- one byte; after a refusal nothing changes any more
 unfoldable pub stepped : CountStage → ℕ → CountStage
@@ -33,7 +33,7 @@ unfoldable pub closed : CountStage → CountStage
 closed x = cond (eqb x.count.refusal no_refusal) (cond (eqb x.count.line.width 0) x (current_ended x)) x
 
 -- what is reported, and the tables
-abbrev pub reporting : Report → Tables → Ended
+abbrev pub reporting : ReportNumbers → Tables → Ended
 reporting r t = record { report = r; tables = t }
 
 unfoldable pub finished : CountStage → Ended

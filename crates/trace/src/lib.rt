@@ -1,26 +1,25 @@
 // A din trace counted over lent tables, in chunks of any size. Only a few numbers are kept between two chunks.
 #![tactic(auto)]
 
-ghost use Rattle.std.specs.Prelude.{◌≡◌, ◌≤◌, length, drop};
+ghost use Rattle.std.specs.Prelude.{◌≡◌};
 ghost use Rattle.protocol.specs.Tables.{fresh};
 ghost use Rattle.protocol.specs.Lent.{lent, TrueMasks};
 ghost use Rattle.protocol.specs.Masks.{masks_of};
-ghost use Rattle.trace_lines.specs.Trace.{trace_setup, ended, ended_on};
-ghost use Rattle.trace_count.specs.Counting.{count_stage, Countable, AtStart};
+ghost use Rattle.trace_lines.specs.Trace.{trace_setup, report_numbers, answer_numbers, ended, ended_on};
+ghost use Rattle.trace_count.specs.Counting.{count_numbers, count_stage, Countable, AtStart};
 ghost use Rattle.trace.specs.Feeding.{fed, finished, reporting};
 
-use protocol_types::Account;
+use protocol_types::Refusal;
 use trace_count::{Count, end_line};
 use trace_lines::{Report, trace_setup};
 
 // The length of the masks: one for each block of the setup.
 pub const BLOCKS: usize = 64;
 
-// More bytes of a trace, from the start of a line at `from` on. A line that lies whole there is parsed where it lies; of one that is cut the bytes are kept as a few numbers.
+// More bytes of a trace, from the start of a line on. A line that lies whole there is parsed where it lies; of one that is cut the bytes are kept as a few numbers.
 fn feed_lines(
     count: Count,
     bytes: &[u8],
-    from: usize,
     blocks: &mut [u32],
     counters: &mut [u32],
     marks: &mut [u32],
@@ -28,33 +27,35 @@ fn feed_lines(
     memory: &mut [u32],
     masks: &mut [u8],
 ) -> Count
-    requires from_in_bounds { from ≤ length bytes.now }
-    requires at_start { AtStart count }
+    requires at_start { AtStart (count_numbers count) }
     requires countable { Countable (count_stage count (lent blocks.old counters.old marks.old words.old memory.old)) }
     requires true_masks { TrueMasks trace_setup (lent blocks.old counters.old marks.old words.old memory.old) masks.old }
     ensures memory_value { count_stage result (lent blocks.new counters.new marks.new words.new memory.new)
-        ≡ fed (count_stage count (lent blocks.old counters.old marks.old words.old memory.old)) (drop from bytes.now) }
+        ≡ fed (count_stage count (lent blocks.old counters.old marks.old words.old memory.old)) bytes.now }
     ensures masks_after { masks.new ≡ masks_of trace_setup (lent blocks.new counters.new marks.new words.new memory.new) }
 {
     let mut so_far = count;
-    let mut i = from;
-    while i < bytes.len() {
-        let rest = &bytes[i..];
+    let mut rest = bytes;
+    'lines: loop {
         let first = trace_din::first_line(rest);
-        let end = first.end;
-        if end >= rest.len() {
-            break;
+        if first.end >= rest.len() {
+            return so_far.lengthen(rest);
         }
-        let parsed = first.parsed;
         so_far = end_line(
-            so_far, parsed, blocks, counters, marks, words, memory, masks,
+            so_far,
+            first.parsed,
+            blocks,
+            counters,
+            marks,
+            words,
+            memory,
+            masks,
         );
-        if so_far.refusal != protocol_types::NO_REFUSAL {
+        if so_far.refusal.is_some() {
             return so_far;
         }
-        i = i + end + 1;
+        rest = &rest[first.end + 1..];
     }
-    so_far.lengthen(&bytes[i..])
 }
 
 // More bytes of a trace: the rest of the current line, then the lines behind it.
@@ -74,7 +75,7 @@ pub fn feed(
         ≡ fed (count_stage count (lent blocks.old counters.old marks.old words.old memory.old)) bytes.now }
     ensures masks_after { masks.new ≡ masks_of trace_setup (lent blocks.new counters.new marks.new words.new memory.new) }
 {
-    if count.refusal != protocol_types::NO_REFUSAL {
+    if count.refusal.is_some() {
         return count;
     }
     let end = trace_din::line_end(bytes, 0);
@@ -82,10 +83,9 @@ pub fn feed(
     if end >= bytes.len() {
         return longer;
     }
-    let line = longer.line;
     let next = end_line(
         longer,
-        line.parsed(),
+        longer.line.parsed(),
         blocks,
         counters,
         marks,
@@ -93,13 +93,12 @@ pub fn feed(
         memory,
         masks,
     );
-    if next.refusal != protocol_types::NO_REFUSAL {
+    if next.refusal.is_some() {
         return next;
     }
     feed_lines(
         next,
-        bytes,
-        end + 1,
+        &bytes[end + 1..],
         blocks,
         counters,
         marks,
@@ -121,20 +120,17 @@ pub fn finish(
 ) -> Report
     requires countable { Countable (count_stage count (lent blocks.old counters.old marks.old words.old memory.old)) }
     requires true_masks { TrueMasks trace_setup (lent blocks.old counters.old marks.old words.old memory.old) masks.old }
-    ensures memory_value { reporting result (lent blocks.new counters.new marks.new words.new memory.new)
+    ensures memory_value { reporting (report_numbers result) (lent blocks.new counters.new marks.new words.new memory.new)
         ≡ finished (count_stage count (lent blocks.old counters.old marks.old words.old memory.old)) }
     ensures masks_after { masks.new ≡ masks_of trace_setup (lent blocks.new counters.new marks.new words.new memory.new) }
 {
-    if count.refusal != protocol_types::NO_REFUSAL {
-        return count.reported();
-    }
-    let line = count.line;
-    if line.width == 0 {
+    let between_lines = count.line.width == 0;
+    if count.refusal.is_some() || between_lines {
         return count.reported();
     }
     let last = end_line(
         count,
-        line.parsed(),
+        count.line.parsed(),
         blocks,
         counters,
         marks,
@@ -157,7 +153,7 @@ fn count_fresh(
 ) -> Report
     requires memory_value { lent blocks.old counters.old marks.old words.old memory.old ≡ fresh trace_setup }
     requires true_masks { TrueMasks trace_setup (lent blocks.old counters.old marks.old words.old memory.old) masks.old }
-    ensures { reporting result (lent blocks.new counters.new marks.new words.new memory.new) ≡ ended bytes.now }
+    ensures { reporting (report_numbers result) (lent blocks.new counters.new marks.new words.new memory.new) ≡ ended bytes.now }
 {
     let count = feed(
         Count::new(),
@@ -180,8 +176,8 @@ pub fn count_trace(
     marks: &mut [u32],
     words: &mut [u32],
     memory: &mut [u32],
-) -> Report
-    ensures { reporting result (lent blocks.new counters.new marks.new words.new memory.new)
+) -> Result<Report, Refusal>
+    ensures { reporting (answer_numbers result) (lent blocks.new counters.new marks.new words.new memory.new)
         ≡ ended_on (lent blocks.old counters.old marks.old words.old memory.old) bytes.now }
 {
     let mut masks = [0u8; BLOCKS];
@@ -194,16 +190,7 @@ pub fn count_trace(
         memory,
         &mut masks,
     ) {
-        return Report {
-            account: Account {
-                requests: 0,
-                fetch: 0,
-                write_back: 0,
-                update: 0,
-            },
-            refusal: refusal.number(),
-            line: 0,
-        };
+        return Err(refusal);
     }
-    count_fresh(bytes, blocks, counters, marks, words, memory, &mut masks)
+    Ok(count_fresh(bytes, blocks, counters, marks, words, memory, &mut masks))
 }

@@ -1,25 +1,22 @@
 -- The requests of a trace: those of its lines before the first one that 6 or 7 refuses.
-use Rattle.std.specs.Prelude.{ℕ, ◌+◌, cond, List, [], ◌∷◌, ◌++◌, eqb}
-use Rattle.protocol_types.specs.Refusals.{no_refusal, malformed_line, unknown_label, first_of}
+use Rattle.std.specs.Prelude.{ℕ, ◌+◌, cond, Result, Ok, Err, List, [], ◌∷◌, ◌++◌, eqb}
+use Rattle.protocol_types.specs.Refusals.{no_refusal, number, first_of}
+use Rattle.protocol_types.specs.declared.Refusal.{Refusal}
 use Rattle.protocol_types.specs.declared.Request.{Request}
 use Rattle.trace_din.specs.Lines.{lines_of, parsed}
 use Rattle.trace_lines.specs.Trace.{interpreted}
-use Rattle.trace_lines.specs.declared.Meaning.{Meaning}
-use Rattle.trace_lines.specs.declared.Meaning.TheVariants.{Malformed, Unknown, Asks}
 
 -- ---- a line
 
 -- 6 and 7 alone
-abbrev pub form_refusal : Meaning → ℕ
-form_refusal Malformed = malformed_line
-form_refusal Unknown = unknown_label
-form_refusal (Asks q) = no_refusal
+abbrev pub form_refusal : Result Request Refusal → ℕ
+form_refusal (Err r) = number r
+form_refusal (Ok q) = no_refusal
 
 -- its request, if it has one
-abbrev pub line_requests : Meaning → List Request
-line_requests Malformed = []
-line_requests Unknown = []
-line_requests (Asks q) = q ∷ []
+abbrev pub line_requests : Result Request Refusal → List Request
+line_requests (Err r) = []
+line_requests (Ok q) = q ∷ []
 
 -- ---- a trace, from line n on
 

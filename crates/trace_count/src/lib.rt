@@ -5,28 +5,29 @@ ghost use Rattle.std.specs.Prelude.{◌≡◌, ◌<◌};
 ghost use Rattle.protocol.specs.Lent.{lent, TrueMasks};
 ghost use Rattle.protocol.specs.Masks.{masks_of};
 ghost use Rattle.protocol_types.specs.Conditions.{request_limit};
+ghost use Rattle.protocol_types.specs.Refusals.{number};
 ghost use Rattle.protocol.specs.Accounts.{entered, Spent, bill_of};
-ghost use Rattle.trace_lines.specs.Trace.{trace_setup};
-ghost use Rattle.trace_count.specs.Counting.{count_stage, fresh_count, lengthened, line_refused, line_counted, line_ended, reported, Countable};
+ghost use Rattle.trace_lines.specs.Trace.{trace_setup, report_numbers};
+ghost use Rattle.trace_count.specs.Counting.{count_numbers, count_stage, fresh_count, lengthened, line_refused, line_counted, line_ended, reported, Countable};
 
-use protocol_types::{Account, Bill, Request};
+use protocol_types::{Account, Bill, Refusal, Request};
 use trace_din::Parsed;
-use trace_lines::{Meaning, Report, interpret, trace_setup};
+use trace_lines::{RefusedLine, Report, interpret, trace_setup};
 use trace_scan::Line;
 
-// A trace so far: its current line and that line's number, what the lines before came to, and the refusal that stopped it, or 0.
+// A trace so far: its current line and that line's number, what the lines before came to, and the refusal of that line, at which the trace ended.
 #[derive(Clone, Copy)]
 pub struct Count {
     pub line: Line,
     pub line_number: u32,
     pub account: Account,
-    pub refusal: u32,
+    pub refusal: Option<Refusal>,
 }
 
 impl Count {
     // A trace before its first byte.
     pub fn new() -> Self
-        ensures { result ≡ fresh_count }
+        ensures { count_numbers result ≡ fresh_count }
     {
         Self {
             line: Line::new(),
@@ -37,53 +38,41 @@ impl Count {
                 write_back: 0,
                 update: 0,
             },
-            refusal: protocol_types::NO_REFUSAL,
+            refusal: None,
         }
     }
 
     // More bytes of the current line, none of them a newline.
     pub fn lengthen(self, bytes: &[u8]) -> Count
-        ensures { result ≡ lengthened self bytes.now }
+        ensures { count_numbers result ≡ lengthened (count_numbers self) bytes.now }
     {
-        let line = self.line;
-        let account = self.account;
         Count {
-            line: line.bytes(bytes),
-            line_number: self.line_number,
-            account: account,
-            refusal: self.refusal,
+            line: self.line.bytes(bytes),
+            ..self
         }
     }
 
     // The current line is refused.
-    fn refuse_line(self, refusal: u32) -> Count
-        ensures { result ≡ line_refused refusal self }
+    fn refuse_line(self, refusal: Refusal) -> Count
+        ensures { count_numbers result ≡ line_refused (number refusal) (count_numbers self) }
     {
-        let account = self.account;
         Count {
             line: Line::new(),
-            line_number: self.line_number,
-            account: account,
-            refusal: refusal,
+            refusal: Some(refusal),
+            ..self
         }
     }
 
     // What is reported of a trace that ends here.
     pub fn reported(self) -> Report
-        ensures { result ≡ reported self }
+        ensures { report_numbers result ≡ reported (count_numbers self) }
     {
-        let account = self.account;
-        if self.refusal == protocol_types::NO_REFUSAL {
-            return Report {
-                account: account,
-                refusal: protocol_types::NO_REFUSAL,
-                line: 0,
-            };
-        }
         Report {
-            account: account,
-            refusal: self.refusal,
-            line: self.line_number,
+            account: self.account,
+            refused: self.refusal.map(|refusal| RefusedLine {
+                refusal,
+                line: self.line_number,
+            }),
         }
     }
 }
@@ -117,31 +106,28 @@ fn take_request(
     requires countable { Countable (count_stage count (lent blocks.old counters.old marks.old words.old memory.old)) }
     requires true_masks { TrueMasks trace_setup (lent blocks.old counters.old marks.old words.old memory.old) masks.old }
     ensures memory_value { count_stage result (lent blocks.new counters.new marks.new words.new memory.new)
-        ≡ line_counted (count_stage count (lent blocks.old counters.old marks.old words.old memory.old)) (Meaning.Asks request) }
+        ≡ line_counted (count_stage count (lent blocks.old counters.old marks.old words.old memory.old)) (Ok request) }
     ensures masks_after { masks.new ≡ masks_of trace_setup (lent blocks.new counters.new marks.new words.new memory.new) }
 {
-    let account = count.account;
     let setup = trace_setup();
-    let refusal = setup.request_refusal(account.requests, request);
-    if refusal != protocol_types::NO_REFUSAL {
+    if let Err(refusal) = setup.check_request(count.account.requests, request) {
         return count.refuse_line(refusal);
     }
     let done = engine::serve(
         setup, request, blocks, counters, marks, words, memory, masks,
     );
-    let bill = done.bill;
     Count {
         line: Line::new(),
         line_number: count.line_number + 1,
-        account: enter(account, bill),
-        refusal: protocol_types::NO_REFUSAL,
+        account: enter(count.account, done.bill),
+        refusal: None,
     }
 }
 
 // The current line ends, and is so parsed.
 pub fn end_line(
     count: Count,
-    parsed: Parsed,
+    parsed: Option<Parsed>,
     blocks: &mut [u32],
     counters: &mut [u32],
     marks: &mut [u32],
@@ -155,12 +141,10 @@ pub fn end_line(
         ≡ line_ended (count_stage count (lent blocks.old counters.old marks.old words.old memory.old)) parsed }
     ensures masks_after { masks.new ≡ masks_of trace_setup (lent blocks.new counters.new marks.new words.new memory.new) }
 {
-    let meaning = interpret(count.line_number, parsed);
-    match meaning {
-        Meaning::Malformed => count.refuse_line(protocol_types::MALFORMED_LINE),
-        Meaning::Unknown => count.refuse_line(protocol_types::UNKNOWN_LABEL),
-        Meaning::Asks(request) => take_request(
+    match interpret(count.line_number, parsed) {
+        Ok(request) => take_request(
             count, request, blocks, counters, marks, words, memory, masks,
         ),
+        Err(refusal) => count.refuse_line(refusal),
     }
 }

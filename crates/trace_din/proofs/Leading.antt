@@ -1,5 +1,5 @@
 -- A line's bytes place by place: the leading ones that pass, and their number.
-use Prim.Native.Nat.{ℕ, ◌+◌, ◌*◌, ◌^◌, ◌≤◌, ◌<◌}
+use Prim.Native.Nat.{ℕ, ◌+◌, ◌-◌, ◌*◌, ◌^◌, ◌≤◌, ◌<◌}
 use mathlib.Core.Path.{◌≡◌, refl, sym, ap, ◌∙◌}
 use mathlib.Core.Bool.{Bool, true, false, cond}
 use mathlib.Core.List.{List, [], ◌∷◌}
@@ -7,14 +7,20 @@ use native.Mathlib.Numerals.{add-one}
 use native.Mathlib.Nat.{mod-eq_of_lt, pow-suc, pow-le-pow_right}
 use native.Mathlib.Omega.{arith}
 use lib.ListN.{length, take, drop, get_or, length-drop}
-use lib.Seq.{drop-cons, drop-length, drop-drop}
+use lib.Seq.{drop-cons, drop-length, drop-drop, take_all}
 use lib.Dec.{leb, ltb}
-use borrow.Author.Tests.{lt-ltb, le-ltb, ltb-true, ltb-false, leb-true, eq-eqb, ne_eqb}
-use Rattle.trace_din.specs.Lines.{newline, is_text, is_digit, hex_value, is_hex, leading, behind, hex_number, address_digits}
+use borrow.Author.Tests.{ltb-true, ltb-false, leb-true, eq-eqb, ne_eqb}
+use Rattle.std.specs.Prelude.{Some, None}
+use Rattle.std.specs.List.{prefix_len}
+use Rattle.trace_din.specs.Lines.{newline, is_text, is_digit, hex_value, is_hex, hex_digit, leading, behind, hex_number, address_digits}
 use Rattle.trace_din.specs.Digits.{shifted, shifted_all}
 use Rattle.trace_din.specs.Places.{EndsAt}
 
 -- ---- from a place on
+
+-- the part of a list from place i on
+pub rest_part : (l : List ℕ) (i : ℕ) → take (length l - i) (drop i l) ≡ drop i l
+rest_part l i = take_all (length l - i) (drop i l) (omega (arith, length-drop i l))
 
 -- the byte at the place passes
 pub leads : (P : ℕ → Bool) (l : List ℕ) (i : ℕ) → i < length l → P (get_or l i 0) ≡ true → leading P (drop i l) ≡ get_or l i 0 ∷ leading P (drop (i + 1) l)
@@ -67,6 +73,15 @@ fails-at P l i e h k =
     let z : 0 < length (behind P (drop i l)) = rw r (omega arith) in
     sym (ap (λ (m : List ℕ). P (get_or m 0 0)) r) ∙ behind-fails P (drop i l) z
 
+-- as many as the library counts
+prefix-more : (P : ℕ → Bool) (b : ℕ) (l : List ℕ) → prefix_len P l ≡ length (leading P l) → (c : Bool) → P b ≡ c → prefix_len P (b ∷ l) ≡ length (leading P (b ∷ l))
+prefix-more P b l ih true e = simp e (omega (arith, ih))
+prefix-more P b l ih false e = simp e
+
+pub leading-length : (P : ℕ → Bool) (l : List ℕ) → prefix_len P l ≡ length (leading P l)
+leading-length P [] = refl
+leading-length P (b ∷ l) = prefix-more P b l (leading-length P l) (P b) refl
+
 leading-more : (P : ℕ → Bool) (b : ℕ) (l : List ℕ) → length (leading P l) ≤ length l → (c : Bool) → P b ≡ c → length (leading P (b ∷ l)) ≤ length (b ∷ l)
 leading-more P b l ih true e = simp e (omega (arith, ih))
 leading-more P b l ih false e = simp e (omega arith)
@@ -89,14 +104,20 @@ pub digit-bounds : (b : ℕ) → is_digit b ≡ true → (48 ≤ b) × (b ≤ 57
 unfolding is_digit
 digit-bounds b h = digit-between b (ltb b 48) refl h
 
--- the test of a digit's value, as the code makes it
-pub is-hex : (b d : ℕ) → d ≡ hex_value b → d ≤ 15 → is_hex b ≡ true
-unfolding is_hex
-is-hex b d e h = lt-ltb (hex_value b) 16 (omega (arith, e, h))
+-- what a search for a digit tells: one was found, or none
+found-hex : (b d : ℕ) (c : Bool) → is_hex b ≡ c → Some d ≡ cond c (Some (hex_value b)) None → (is_hex b ≡ true) × (d ≡ hex_value b)
+found-hex b d true h e = (h, cc)
+found-hex b d false h e = absurd cc
 
-pub not-hex : (b d : ℕ) → d ≡ hex_value b → 15 < d → is_hex b ≡ false
-unfolding is_hex
-not-hex b d e h = le-ltb (hex_value b) 16 (omega (arith, e, h))
+pub is-hex : (b d : ℕ) → Some d ≡ hex_digit b → (is_hex b ≡ true) × (d ≡ hex_value b)
+is-hex b d e = found-hex b d (is_hex b) refl e
+
+no-hex : (b : ℕ) (c : Bool) → is_hex b ≡ c → None ≡ cond c (Some (hex_value b)) None → is_hex b ≡ false
+no-hex b true h e = absurd cc
+no-hex b false h e = h
+
+pub not-hex : (b : ℕ) → None ≡ hex_digit b → is_hex b ≡ false
+not-hex b e = no-hex b (is_hex b) refl e
 
 -- of at most 8 digits none is lost
 pub shifted_fits : (n v h : ℕ) → n < address_digits → v < 16 ^ n → h < 16 → (shifted v h ≡ v * 16 + h) × (v * 16 + h < 16 ^ (n + 1))

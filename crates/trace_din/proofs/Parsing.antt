@@ -8,11 +8,11 @@ use lib.ListN.{length, drop, get_or, length-drop}
 use lib.Seq.{drop-cons}
 use lib.Dec.{leb}
 use borrow.Author.Tests.{le-leb, lt-leb, eqb-true, not-false}
-use Rattle.trace_din.specs.Lines.{newline, is_text, is_digit, is_blank, is_gap, hex_value, is_hex, leading, behind, ends, address_digits, addressed, separated, parsed_line, line_limit, parsed}
+use Rattle.std.specs.Prelude.{Option}
+use Rattle.trace_din.specs.Lines.{newline, is_text, is_digit, is_blank, is_gap, hex_value, is_hex, leading, behind, ends, address_digits, malformed, labelled, addressed, separated, parsed_line, line_limit, parsed}
 use Rattle.trace_din.specs.Digits.{shifted_all}
 use Rattle.trace_din.specs.Places.{EndsAt}
 use Rattle.trace_din.specs.declared.Parsed.{Parsed}
-use Rattle.trace_din.specs.declared.Parsed.TheVariants.{Malformed, Labelled}
 use Rattle.trace_din.proofs.Leading.{leads, rest_at, drop-leading, leading-short, leading-within, digit-bounds, digits-kept, is-text}
 
 -- ---- bytes that pass a test that no newline passes stand in the first line
@@ -81,15 +81,15 @@ no_front (b ∷ l) h = absurd (omega arith)
 -- ---- the address from place i on, whose digits end at place e, in a line that ends at place z
 
 -- the rest of a line from its address on
-abbrev pub address_at : ℕ → List ℕ → ℕ → Parsed
+abbrev pub address_at : ℕ → List ℕ → ℕ → Option Parsed
 address_at d s i = addressed d (leading is_text (drop i s))
 
-pub address-none : (d : ℕ) (s : List ℕ) (i e : ℕ) → EndsAt is_hex s i e → e - i < 1 → Malformed ≡ address_at d s i
+pub address-none : (d : ℕ) (s : List ℕ) (i e : ℕ) → EndsAt is_hex s i e → e - i < 1 → malformed ≡ address_at d s i
 unfolding addressed
 address-none d s i e z h =
     simp (leading-text is_hex hex-newline (drop i s), lt-leb 1 (length (leading is_hex (drop i s))) (omega (arith, z, h)))
 
-pub address-long : (d : ℕ) (s : List ℕ) (i e : ℕ) → EndsAt is_hex s i e → address_digits < e - i → Malformed ≡ address_at d s i
+pub address-long : (d : ℕ) (s : List ℕ) (i e : ℕ) → EndsAt is_hex s i e → address_digits < e - i → malformed ≡ address_at d s i
 unfolding addressed
 address-long d s i e z h =
     let n = length (leading is_hex (drop i s)) in
@@ -97,7 +97,7 @@ address-long d s i e z h =
 
 -- 1 to 8 digits, and what stands behind them
 digits-few : (d : ℕ) (s : List ℕ) (i e : ℕ) → EndsAt is_hex s i e → 1 ≤ e - i → e - i ≤ address_digits
-    → address_at d s i ≡ cond (ends (leading is_text (drop e s))) (Labelled d (shifted_all 0 (leading is_hex (drop i s)))) Malformed
+    → address_at d s i ≡ cond (ends (leading is_text (drop e s))) (labelled d (shifted_all 0 (leading is_hex (drop i s)))) malformed
 unfolding addressed
 digits-few d s i e z h k =
     let n : length (leading is_hex (drop i s)) ≤ address_digits = omega (arith, z, k) in
@@ -108,7 +108,7 @@ digits-few d s i e z h k =
       le-leb 1 (length (leading is_hex (drop i s))) (omega (arith, z, h)),
       le-leb (length (leading is_hex (drop i s))) address_digits n,
     )
-    (ap (λ (v : ℕ). cond (ends (leading is_text (drop e s))) (Labelled d v) Malformed) (sym (digits-kept (drop i s) n)))
+    (ap (λ (v : ℕ). cond (ends (leading is_text (drop e s))) (labelled d v) malformed) (sym (digits-kept (drop i s) n)))
 
 -- the byte behind the digits, if the line has one
 pub within-line : (s : List ℕ) (i e z : ℕ) → i ≤ length s → EndsAt is_hex s i e → EndsAt is_text s e z → e < z → e < length s
@@ -120,48 +120,48 @@ ends-within : (s : List ℕ) (e z : ℕ) → e < length s → EndsAt is_text s e
 ends-within s e z k y h = front (drop e s) (omega (arith, y, h)) ∙ ap (λ (l : List ℕ). is_gap (get_or l 0 0)) (drop-cons s e 0 k)
 
 pub address-bad : (d : ℕ) (s : List ℕ) (i e z : ℕ) → i ≤ length s → EndsAt is_hex s i e → EndsAt is_text s e z → 1 ≤ e - i → e - i ≤ address_digits → e < z → is_gap (get_or s e 0) ≡ false
-    → Malformed ≡ address_at d s i
+    → malformed ≡ address_at d s i
 address-bad d s i e z l x y h k m g = sym (digits-few d s i e x h k ∙ simp (ends-within s e z (within-line s i e z l x y m) y m ∙ g))
 
 pub address-good : (d : ℕ) (s : List ℕ) (i e z v : ℕ) → i ≤ length s → EndsAt is_hex s i e → EndsAt is_text s e z → 1 ≤ e - i → e - i ≤ address_digits → e < z → is_gap (get_or s e 0) ≡ true
-    → v ≡ shifted_all 0 (leading is_hex (drop i s)) → Labelled d v ≡ address_at d s i
-address-good d s i e z v l x y h k m g n = ap (Labelled d) n ∙ sym (digits-few d s i e x h k ∙ simp (ends-within s e z (within-line s i e z l x y m) y m ∙ g))
+    → v ≡ shifted_all 0 (leading is_hex (drop i s)) → labelled d v ≡ address_at d s i
+address-good d s i e z v l x y h k m g n = ap (labelled d) n ∙ sym (digits-few d s i e x h k ∙ simp (ends-within s e z (within-line s i e z l x y m) y m ∙ g))
 
 pub address-last : (d : ℕ) (s : List ℕ) (i e z v : ℕ) → EndsAt is_hex s i e → EndsAt is_text s e z → 1 ≤ e - i → e - i ≤ address_digits → z ≤ e
-    → v ≡ shifted_all 0 (leading is_hex (drop i s)) → Labelled d v ≡ address_at d s i
-address-last d s i e z v x y h k m n = ap (Labelled d) n ∙ sym (digits-few d s i e x h k ∙ simp (no_front (leading is_text (drop e s)) (omega (arith, y, m))))
+    → v ≡ shifted_all 0 (leading is_hex (drop i s)) → labelled d v ≡ address_at d s i
+address-last d s i e z v x y h k m n = ap (labelled d) n ∙ sym (digits-few d s i e x h k ∙ simp (no_front (leading is_text (drop e s)) (omega (arith, y, m))))
 
 -- ---- the line
 
-width-test : (l : List ℕ) (c : Bool) → leb (length l) line_limit ≡ c → parsed l ≡ cond c (parsed_line l) Malformed
+width-test : (l : List ℕ) (c : Bool) → leb (length l) line_limit ≡ c → parsed l ≡ cond c (parsed_line l) malformed
 unfolding parsed
-width-test l c e = ap (λ (b : Bool). cond b (parsed_line l) Malformed) e
+width-test l c e = ap (λ (b : Bool). cond b (parsed_line l) malformed) e
 
 narrow : (l : List ℕ) → length l ≤ line_limit → parsed_line l ≡ parsed l
 narrow l h = sym (width-test l true (le-leb (length l) line_limit h))
 
-too_wide : (l : List ℕ) → line_limit < length l → Malformed ≡ parsed l
+too_wide : (l : List ℕ) → line_limit < length l → malformed ≡ parsed l
 too_wide l h = sym (width-test l false (lt-leb (length l) line_limit h))
 
-narrow-or-wide : (l : List ℕ) → parsed_line l ≡ Malformed → (c : Bool) → leb (length l) line_limit ≡ c → Malformed ≡ parsed l
+narrow-or-wide : (l : List ℕ) → parsed_line l ≡ malformed → (c : Bool) → leb (length l) line_limit ≡ c → malformed ≡ parsed l
 narrow-or-wide l h true e = sym (width-test l true e ∙ h)
 narrow-or-wide l h false e = sym (width-test l false e)
 
 -- whatever its width
-malformed-line : (l : List ℕ) → parsed_line l ≡ Malformed → Malformed ≡ parsed l
+malformed-line : (l : List ℕ) → parsed_line l ≡ malformed → malformed ≡ parsed l
 malformed-line l h = narrow-or-wide l h (leb (length l) line_limit) refl
 
 -- the first line of the bytes s: no bytes at all
-pub no_bytes : (s : List ℕ) → length s < 1 → (0 ≡ length (leading is_text s)) × (Malformed ≡ parsed (leading is_text s))
+pub no_bytes : (s : List ℕ) → length s < 1 → (0 ≡ length (leading is_text s)) × (malformed ≡ parsed (leading is_text s))
 no_bytes [] h = (refl, malformed-line [] refl)
 no_bytes (b ∷ l) h = absurd (omega arith)
 
-label-more : (b : ℕ) (l : List ℕ) (c : Bool) → is_text b ≡ c → is_digit b ≡ false → parsed_line (leading is_text (b ∷ l)) ≡ Malformed
+label-more : (b : ℕ) (l : List ℕ) (c : Bool) → is_text b ≡ c → is_digit b ≡ false → parsed_line (leading is_text (b ∷ l)) ≡ malformed
 label-more b l true e h = simp (e, h)
 label-more b l false e h = simp e
 
 -- no label
-pub no_label : (s : List ℕ) → is_digit (get_or s 0 0) ≡ false → Malformed ≡ parsed (leading is_text s)
+pub no_label : (s : List ℕ) → is_digit (get_or s 0 0) ≡ false → malformed ≡ parsed (leading is_text s)
 no_label [] h = malformed-line [] refl
 no_label (b ∷ l) h = malformed-line (leading is_text (b ∷ l)) (label-more b l (is_text b) refl h)
 
@@ -177,7 +177,7 @@ pub label-line : (s : List ℕ) (z : ℕ) → Labels s → EndsAt is_text s 1 z 
 label-line s z h y = y ∙ sym (ap length (label-first s h) ∙ omega arith)
 
 -- no blank behind the label
-pub no-blank : (s : List ℕ) → Labels s → length (leading is_blank (drop 1 s)) ≡ 0 → Malformed ≡ parsed (leading is_text s)
+pub no-blank : (s : List ℕ) → Labels s → length (leading is_blank (drop 1 s)) ≡ 0 → malformed ≡ parsed (leading is_text s)
 unfolding separated
 no-blank s h z =
     malformed-line (leading is_text s)
@@ -199,7 +199,7 @@ an-address s i h x n =
     more zero y = absurd (y refl)
     more (suc k) y = omega arith
 
-pub wide-line : (s : List ℕ) (i z : ℕ) → Labels s → EndsAt is_blank s 1 i → EndsAt is_text s i z → line_limit < z → Malformed ≡ parsed (leading is_text s)
+pub wide-line : (s : List ℕ) (i z : ℕ) → Labels s → EndsAt is_blank s 1 i → EndsAt is_text s i z → line_limit < z → malformed ≡ parsed (leading is_text s)
 wide-line s i z h x y w = too_wide (leading is_text s) (omega (arith, w, same_line s i z h x y))
 
 pub narrow-line : (s : List ℕ) (i z : ℕ) → Labels s → EndsAt is_blank s 1 i → (i ≡ 1 → ⊥) → EndsAt is_text s i z → z ≤ line_limit

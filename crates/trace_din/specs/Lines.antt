@@ -1,7 +1,6 @@
 -- The lines of a din trace, as document 01, "The trace program", has them.
-use Rattle.std.specs.Prelude.{ℕ, ◌+◌, ◌-◌, ◌*◌, Bool, true, false, not, ◌&&◌, cond, List, [], ◌∷◌, length, leb, ltb, eqb}
+use Rattle.std.specs.Prelude.{ℕ, ◌+◌, ◌-◌, ◌*◌, Bool, true, false, not, ◌&&◌, cond, Option, Some, None, List, [], ◌∷◌, length, leb, ltb, eqb}
 use Rattle.trace_din.specs.declared.Parsed.{Parsed}
-use Rattle.trace_din.specs.declared.Parsed.TheVariants.{Malformed, Labelled}
 
 -- ---- the lines of a trace
 
@@ -46,6 +45,10 @@ hex_value b =
 unfoldable pub is_hex : ℕ → Bool
 is_hex b = ltb (hex_value b) 16
 
+-- its value, if it is one
+abbrev pub hex_digit : ℕ → Option ℕ
+hex_digit b = cond (is_hex b) (Some (hex_value b)) None
+
 -- ---- the parts of a line
 
 -- the leading bytes that pass
@@ -70,28 +73,35 @@ ends (b ∷ bs) = is_gap b
 
 -- ---- a line
 
+-- what it says: nothing, or a label and an address
+abbrev pub malformed : Option Parsed
+malformed = None
+
+abbrev pub labelled : ℕ → ℕ → Option Parsed
+labelled d a = Some (record { label = d; address = a })
+
 -- "1 to 8 hexadecimal digits of either case"
 abbrev pub address_digits : ℕ
 address_digits = 8
 
 -- where the label is d
-unfoldable pub addressed : ℕ → List ℕ → Parsed
+unfoldable pub addressed : ℕ → List ℕ → Option Parsed
 addressed d l =
     cond (leb 1 (length (leading is_hex l)) && leb (length (leading is_hex l)) address_digits && ends (behind is_hex l))
-    (Labelled d (hex_number 0 (leading is_hex l))) Malformed
+    (labelled d (hex_number 0 (leading is_hex l))) malformed
 
 -- "one or more blanks or tabs"
-unfoldable pub separated : ℕ → List ℕ → Parsed
-separated d l = cond (leb 1 (length (leading is_blank l))) (addressed d (behind is_blank l)) Malformed
+unfoldable pub separated : ℕ → List ℕ → Option Parsed
+separated d l = cond (leb 1 (length (leading is_blank l))) (addressed d (behind is_blank l)) malformed
 
 -- "one decimal digit"; empty lines are malformed
-abbrev pub parsed_line : List ℕ → Parsed
-parsed_line [] = Malformed
-parsed_line (b ∷ l) = cond (is_digit b) (separated (b - 48) l) Malformed
+abbrev pub parsed_line : List ℕ → Option Parsed
+parsed_line [] = malformed
+parsed_line (b ∷ l) = cond (is_digit b) (separated (b - 48) l) malformed
 
 -- "Lines over 80 bytes without their newline … are malformed"
 abbrev pub line_limit : ℕ
 line_limit = 80
 
-unfoldable pub parsed : List ℕ → Parsed
-parsed l = cond (leb (length l) line_limit) (parsed_line l) Malformed
+unfoldable pub parsed : List ℕ → Option Parsed
+parsed l = cond (leb (length l) line_limit) (parsed_line l) malformed

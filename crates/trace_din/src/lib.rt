@@ -1,8 +1,8 @@
 // The lines of a din trace, parsed where they lie.
 #![tactic(auto)]
 
-ghost use Rattle.std.specs.Prelude.{◌≡◌, ◌<◌, ◌≤◌, length};
-ghost use Rattle.trace_din.specs.Lines.{is_text, is_digit, is_blank, is_gap, hex_value};
+ghost use Rattle.std.specs.Prelude.{◌≡◌, ◌<◌, ◌≤◌, length, IfSome};
+ghost use Rattle.trace_din.specs.Lines.{is_text, is_digit, is_blank, is_gap, hex_digit};
 ghost use Rattle.trace_din.specs.Digits.{shifted};
 ghost use Rattle.trace_din.specs.Places.{EndsAt, AddressAt, RestAt, FirstOf};
 
@@ -12,56 +12,41 @@ pub const LINE_LIMIT: u32 = 80;
 // The most digits of an address.
 pub const ADDRESS_DIGITS: u32 = 8;
 
-// What a line is: malformed, or a label and an address.
+// What a line that is not malformed says.
 #[derive(Clone, Copy)]
-pub enum Parsed {
-    Malformed,
-    Labelled(u32, u32),
+pub struct Parsed {
+    pub label: u32,
+    pub address: u32,
 }
 
-// The value of a hexadecimal digit of either case; 16 of any other byte.
-pub fn hex_value(b: u8) -> u32
-    ensures { result ≡ hex_value b }
+// The value of a hexadecimal digit of either case; None of any other byte.
+#[tactic(auto, unfolding(crate::specs::Lines::hex_value, crate::specs::Lines::is_hex))]
+pub fn hex_value(b: u8) -> Option<u32>
+    ensures value { result ≡ hex_digit b }
+    ensures bound { IfSome result (λ d. d < 16) }
 {
-    if b < b'0' {
-        return 16;
+    match b {
+        b'0'..=b'9' => Some((b - b'0') as u32),
+        b'A'..=b'F' => Some((b - b'A') as u32 + 10),
+        b'a'..=b'f' => Some((b - b'a') as u32 + 10),
+        _ => None,
     }
-    if b <= b'9' {
-        return (b - b'0') as u32;
-    }
-    if b < b'A' {
-        return 16;
-    }
-    if b <= b'F' {
-        return (b - 55) as u32;
-    }
-    if b < b'a' {
-        return 16;
-    }
-    if b <= b'f' {
-        return (b - 87) as u32;
-    }
-    16
 }
 
 // A blank or a tab.
+#[tactic(auto, unfolding(crate::specs::Lines::is_blank))]
 pub fn is_blank(b: u8) -> bool
     ensures { result ≡ is_blank b }
 {
-    if b == b' ' {
-        return true;
-    }
-    b == b'\t'
+    matches!(b, b' ' | b'\t')
 }
 
 // A blank, a tab or a carriage return.
+#[tactic(auto, unfolding(crate::specs::Lines::is_gap))]
 pub fn is_gap(b: u8) -> bool
     ensures { result ≡ is_gap b }
 {
-    if is_blank(b) {
-        return true;
-    }
-    b == b'\r'
+    is_blank(b) || b == b'\r'
 }
 
 // One hexadecimal digit more.
@@ -73,13 +58,11 @@ pub fn shift(address: u32, digit: u32) -> u32
 }
 
 // A decimal digit.
+#[tactic(auto, unfolding(crate::specs::Lines::is_digit))]
 fn is_digit(b: u8) -> bool
     ensures { result ≡ is_digit b }
 {
-    if b < b'0' {
-        return false;
-    }
-    b <= b'9'
+    b.is_ascii_digit()
 }
 
 // The first place from `from` on that has no blank or tab, or the bytes' end.
@@ -87,14 +70,7 @@ fn blanks_end(bytes: &[u8], from: usize) -> usize
     requires { from ≤ length bytes.now }
     ensures { EndsAt is_blank bytes.now from result }
 {
-    let mut i = from;
-    while i < bytes.len() {
-        if !is_blank(bytes[i]) {
-            break;
-        }
-        i += 1;
-    }
-    i
+    from + bytes[from..].iter().take_while(|b| is_blank(**b)).count()
 }
 
 // The hexadecimal digits from a place on: the place after them, and their number's low 32 bits.
@@ -108,19 +84,16 @@ fn address_at(bytes: &[u8], from: usize) -> Address
     requires { from ≤ length bytes.now }
     ensures { AddressAt bytes.now from result }
 {
-    let mut i = from;
     let mut number = 0;
-    while i < bytes.len() {
-        let digit = hex_value(bytes[i]);
-        if digit > 15 {
-            break;
-        }
+    for i in from..bytes.len() {
+        let Some(digit) = hex_value(bytes[i]) else {
+            return Address { end: i, number };
+        };
         number = shift(number, digit);
-        i += 1;
     }
     Address {
-        end: i,
-        number: number,
+        end: bytes.len(),
+        number,
     }
 }
 
@@ -129,20 +102,13 @@ pub fn line_end(bytes: &[u8], from: usize) -> usize
     requires { from ≤ length bytes.now }
     ensures { EndsAt is_text bytes.now from result }
 {
-    let mut i = from;
-    while i < bytes.len() {
-        if bytes[i] == b'\n' {
-            break;
-        }
-        i += 1;
-    }
-    i
+    from + bytes[from..].iter().take_while(|b| **b != b'\n').count()
 }
 
-// The first line of some bytes: what it is, and the place of its newline, or the bytes' end.
+// The first line of some bytes: what it says, None if it is malformed, and the place of its newline, or the bytes' end.
 #[derive(Clone, Copy)]
 pub struct FirstLine {
-    pub parsed: Parsed,
+    pub parsed: Option<Parsed>,
     pub end: usize,
 }
 
@@ -154,25 +120,20 @@ fn rest_of_line(label: u32, bytes: &[u8], from: usize) -> FirstLine
     let address = address_at(bytes, from);
     let behind = address.end;
     let end = line_end(bytes, behind);
-    let malformed = FirstLine {
-        parsed: Parsed::Malformed,
-        end: end,
-    };
+    let malformed = FirstLine { parsed: None, end };
     let count = behind - from;
-    if count < 1 {
+    if count < 1 || count > ADDRESS_DIGITS as usize {
         return malformed;
     }
-    if count > ADDRESS_DIGITS as usize {
+    if behind < end && !is_gap(bytes[behind]) {
         return malformed;
-    }
-    if behind < end {
-        if !is_gap(bytes[behind]) {
-            return malformed;
-        }
     }
     FirstLine {
-        parsed: Parsed::Labelled(label, address.number),
-        end: end,
+        parsed: Some(Parsed {
+            label,
+            address: address.number,
+        }),
+        end,
     }
 }
 
@@ -180,30 +141,30 @@ fn rest_of_line(label: u32, bytes: &[u8], from: usize) -> FirstLine
 pub fn first_line(bytes: &[u8]) -> FirstLine
     ensures { FirstOf bytes.now result }
 {
-    if bytes.len() < 1 {
+    if bytes.is_empty() {
         return FirstLine {
-            parsed: Parsed::Malformed,
+            parsed: None,
             end: 0,
         };
     }
     let first = bytes[0];
     if !is_digit(first) {
         return FirstLine {
-            parsed: Parsed::Malformed,
+            parsed: None,
             end: line_end(bytes, 0),
         };
     }
     let from = blanks_end(bytes, 1);
     if from == 1 {
         return FirstLine {
-            parsed: Parsed::Malformed,
+            parsed: None,
             end: line_end(bytes, 1),
         };
     }
     let rest = rest_of_line((first - b'0') as u32, bytes, from);
     if rest.end > LINE_LIMIT as usize {
         return FirstLine {
-            parsed: Parsed::Malformed,
+            parsed: None,
             end: rest.end,
         };
     }

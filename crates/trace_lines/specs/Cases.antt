@@ -4,12 +4,12 @@ use Rattle.protocol_types.specs.Lists.{at}
 use Rattle.protocol.specs.Tables.{Tables, tables}
 use Rattle.protocol.specs.Sessions.{usual, account, copy, holding, same_account, same_tables}
 use Rattle.trace_lines.specs.Trace.{Ended, ended, ended_on}
-use Rattle.trace_lines.specs.declared.Report.{Report}
+use Rattle.trace_lines.specs.declared.ReportNumbers.{ReportNumbers}
 
 -- the bytes of a trace, the six numbers that are reported, and the first word of processor 0's first line afterwards
 pub record Case : Type 0 where
   pub bytes : List ℕ
-  pub report : Report
+  pub report : ReportNumbers
   pub word : ℕ
 
 pub data Row : Type 0 where
@@ -24,7 +24,7 @@ row bs n f w u r l x = case (record {
   word = x;
 })
 
-abbrev pub same_report : Report → Report → Bool
+abbrev pub same_report : ReportNumbers → ReportNumbers → Bool
 same_report a c = same_account a.account c.account && eqb a.refusal c.refusal && eqb a.line c.line
 
 abbrev pub case_passes : Case → Bool

@@ -1,41 +1,31 @@
 -- What reads of standard input come to. No contract says what a read answers or which bytes it brings; all that follows from these is defined here.
-use Rattle.std.specs.Prelude.{ℕ, ◌-◌, ◌^◌, ◌≡◌, ◌≤◌, min, Bool, true, false, cond, List, [], ◌∷◌, ◌++◌, ℤ, pos, negsuc, eqb, length, take}
-use Rattle.std.specs.Int.Signed.{lt_z, le_z}
+use Rattle.std.specs.Prelude.{ℕ, ◌-◌, ◌^◌, ◌≡◌, Bool, true, false, cond, Option, unwrap_or, is_none, Result, Ok, Err, is_err, List, [], ◌∷◌, ◌++◌, eqb, length, take}
 use Rattle.protocol_types.specs.Refusals.{no_refusal}
-use Rattle.protocol.specs.Tables.{Tables, fresh}
-use Rattle.trace_lines.specs.Trace.{trace_setup, report}
-use Rattle.trace_count.specs.Counting.{CountStage, count_stage, fresh_count}
+use Rattle.protocol.specs.Tables.{fresh}
+use Rattle.trace_lines.specs.Trace.{trace_setup, report_numbers, report}
+use Rattle.trace_lines.specs.declared.Report.{Report}
+use Rattle.trace_count.specs.Counting.{CountStage, stage, fresh_count}
 use Rattle.trace.specs.Feeding.{fed}
-use Rattle.trace_report.specs.declared.Progress.{Progress}
-use Rattle.trace_report.specs.declared.Answer.{Answer}
+use Rattle.trace_report.specs.declared.ReadFailed.{ReadFailed}
 use Rattle.trace_report.specs.declared.Delivery.{Delivery}
 
 -- ---- one read
 
--- `&xs[..n]` is in bounds and has n bytes
-abbrev pub IsPrefixLen : ℕ → List ℕ → Type 0
-IsPrefixLen n xs = (n ≤ length xs) × (n ≡ length (take n xs))
-
--- what a read answered, brought into `0..=most`
-abbrev pub clamp_len : ℤ → ℕ → ℕ
-clamp_len (pos k) most = min k most
-clamp_len (negsuc k) most = 0
-
--- what a read answered (a number of bytes, 0 at the end of the input, less where it failed), and the buffer as it left it
+-- what a read answered (a number of bytes, 0 at the end of the input, none where it failed), and the buffer as it left it
 pub record Read : Type 0 where
-  pub got : ℤ
+  pub got : Option ℕ
   pub buffer : List ℕ
 
-abbrev pub read_of : ℤ → List ℕ → Read
+abbrev pub read_of : Option ℕ → List ℕ → Read
 read_of g b = record { got = g; buffer = b }
 
 -- it brought no byte
 abbrev pub is_last : Read → Bool
-is_last d = le_z d.got (pos 0)
+is_last d = eqb (unwrap_or d.got 0) 0
 
 -- the bytes that it brought
 abbrev pub brought : Read → List ℕ
-brought d = cond (is_last d) [] (take (clamp_len d.got (length d.buffer)) d.buffer)
+brought d = take (unwrap_or d.got 0) d.buffer
 
 -- ---- the count after it
 
@@ -45,26 +35,18 @@ pub record Reading : Type 0 where
   pub failed : Bool
   pub stage : CountStage
 
-abbrev pub reading : Progress → Tables → Reading
-reading p t = record { going = p.going; failed = p.failed; stage = count_stage p.count t }
-
 -- reading goes on until a line is refused
 abbrev pub counted : CountStage → Reading
 counted x = record { going = eqb x.count.refusal no_refusal; failed = false; stage = x }
 
 -- it stops where a read brings no byte, and has failed if the read has
 unfoldable pub after_read : CountStage → Read → Reading
-after_read x d = cond (is_last d) (record { going = false; failed = lt_z d.got (pos 0); stage = x }) (counted (fed x (brought d)))
-
--- one read, whatever it answered, led from x to y and left this buffer
-pub record Took (x : CountStage) (buffer : List ℕ) (y : Reading) : Type 0 where
-  pub got : ℤ
-  pub is : y ≡ after_read x (read_of got buffer)
+after_read x d = cond (is_last d) (record { going = false; failed = is_none d.got; stage = x }) (counted (fed x (brought d)))
 
 -- ---- all reads, the last one first
 
 abbrev pub after_reads : List Read → Reading
-after_reads [] = record { going = true; failed = false; stage = count_stage fresh_count (fresh trace_setup) }
+after_reads [] = record { going = true; failed = false; stage = stage fresh_count (fresh trace_setup) }
 after_reads (d ∷ ds) = after_read (after_reads ds).stage d
 
 abbrev pub all_brought : List Read → List ℕ
@@ -81,18 +63,24 @@ pub record AllRead (ds : List Read) : Type 0 where
   pub in-turn : InTurn ds
   pub ended : (after_reads ds).going ≡ true → length ds ≡ 2 ^ 64 - 1
 
--- a count after such reads
-pub record Reached (x : Reading) : Type 0 where
+-- a count after such reads, and whether the last one failed
+pub record Reached (failed : Bool) (x : CountStage) : Type 0 where
   pub reads : List Read
   pub all_read : AllRead reads
-  pub is : x ≡ after_reads reads
+  pub failure : failed ≡ (after_reads reads).failed
+  pub is : x ≡ (after_reads reads).stage
+
+-- what was read, in all or before a read failed
+abbrev pub so_far : {A : Type 0} → Result A (ReadFailed A) → A
+so_far (Ok x) = x
+so_far (Err e) = e.before
 
 -- the report of all the bytes of such reads, and whether the last one failed
-pub record Reported (a : Answer) : Type 0 where
+pub record Reported (a : Result Report (ReadFailed Report)) : Type 0 where
   pub reads : List Read
   pub all_read : AllRead reads
-  pub failed : a.failed ≡ (after_reads reads).failed
-  pub is : a.report ≡ report (all_brought reads)
+  pub failure : is_err a ≡ (after_reads reads).failed
+  pub is : report_numbers (so_far a) ≡ report (all_brought reads)
 
 -- ---- what is written
 
@@ -102,4 +90,4 @@ Withheld failed written = failed ≡ true → written ≡ false
 
 pub record Delivered (o : Delivery) : Type 0 where
   pub reported : Reported o.answer
-  pub withheld : Withheld o.answer.failed o.written
+  pub withheld : Withheld (is_err o.answer) o.written

@@ -1,13 +1,13 @@
 // Reads a din trace on standard input and prints what it came to.
 #![tactic(auto)]
 
-ghost use Rattle.std.specs.Prelude.{◌≡◌, ◌≤◌, min, length};
+ghost use Rattle.std.specs.Prelude.{◌≡◌, is_err};
 ghost use Rattle.protocol.specs.Tables.{fresh};
 ghost use Rattle.protocol.specs.Lent.{lent, TrueMasks};
 ghost use Rattle.protocol.specs.Masks.{masks_of};
 ghost use Rattle.trace_lines.specs.Trace.{trace_setup};
-ghost use Rattle.trace_count.specs.Counting.{count_stage, Countable};
-ghost use Rattle.trace_report.specs.Reading.{IsPrefixLen, clamp_len, read_of, reading, after_read, Took, Reached, Reported, Withheld, Delivered};
+ghost use Rattle.trace_count.specs.Counting.{count_stage};
+ghost use Rattle.trace_report.specs.Reading.{so_far, Reached, Reported, Withheld, Delivered};
 
 use std::io::Read;
 use trace::BLOCKS;
@@ -25,118 +25,13 @@ const VARIABLES: usize = 256;
 // How many bytes are read at once.
 const BUFFER: usize = 65536;
 
-// A trace after a read: whether to read on, whether a read failed, and what was counted.
+// A read failed: what the trace had come to before it.
 #[derive(Clone, Copy)]
-struct Progress {
-    going: bool,
-    failed: bool,
-    count: Count,
+pub struct ReadFailed<T> {
+    pub before: T,
 }
 
-// How many bytes of the buffer a read brought: none where it failed, and no more than the buffer has.
-fn brought(got: isize, buffer: &[u8]) -> usize
-    ensures in_bounds { IsPrefixLen result buffer.now }
-    ensures value { result ≡ clamp_len got (length buffer.now) }
-{
-    clamp(got, buffer.len())
-}
-
-fn clamp(got: isize, most: usize) -> usize
-    ensures bound { result ≤ most }
-    ensures value { result ≡ clamp_len got most }
-{
-    if got > 0 {
-        smaller(got as usize, most)
-    } else {
-        0
-    }
-}
-
-fn smaller(a: usize, b: usize) -> usize
-    ensures a_bound { result ≤ a }
-    ensures b_bound { result ≤ b }
-    ensures value { result ≡ min a b }
-{
-    if a < b { a } else { b }
-}
-
-// Counts what a read brought. Reading stops at the end of the input, at an error and after a refusal.
-fn count_read(
-    got: isize,
-    count: Count,
-    buffer: &[u8],
-    blocks: &mut [u32],
-    counters: &mut [u32],
-    marks: &mut [u32],
-    words: &mut [u32],
-    memory: &mut [u32],
-    masks: &mut [u8],
-) -> Progress
-    requires countable { Countable (count_stage count (lent blocks.old counters.old marks.old words.old memory.old)) }
-    requires true_masks { TrueMasks trace_setup (lent blocks.old counters.old marks.old words.old memory.old) masks.old }
-    ensures memory_value { reading result (lent blocks.new counters.new marks.new words.new memory.new)
-        ≡ after_read (count_stage count (lent blocks.old counters.old marks.old words.old memory.old)) (read_of got buffer.now) }
-    ensures masks_after { masks.new ≡ masks_of trace_setup (lent blocks.new counters.new marks.new words.new memory.new) }
-{
-    if got <= 0 {
-        return Progress {
-            going: false,
-            failed: got < 0,
-            count: count,
-        };
-    }
-    let n = brought(got, buffer);
-    let next = trace::feed(
-        count,
-        &buffer[..n],
-        blocks,
-        counters,
-        marks,
-        words,
-        memory,
-        masks,
-    );
-    let refusal = next.refusal;
-    Progress {
-        going: refusal == protocol_types::NO_REFUSAL,
-        failed: false,
-        count: next,
-    }
-}
-
-// Reads once: how many bytes came, 0 at the end of the input, less where it failed.
-fn answer_of_read<R: Read>(input: &mut R, buffer: &mut [u8]) -> isize {
-    match input.read(buffer) {
-        Ok(n) => n as isize,
-        Err(_) => -1,
-    }
-}
-
-// Reads once, and counts what came.
-fn read_some<R: Read>(
-    input: &mut R,
-    count: Count,
-    buffer: &mut [u8],
-    blocks: &mut [u32],
-    counters: &mut [u32],
-    marks: &mut [u32],
-    words: &mut [u32],
-    memory: &mut [u32],
-    masks: &mut [u8],
-) -> Progress
-    requires countable { Countable (count_stage count (lent blocks.old counters.old marks.old words.old memory.old)) }
-    requires true_masks { TrueMasks trace_setup (lent blocks.old counters.old marks.old words.old memory.old) masks.old }
-    ensures took { Took (count_stage count (lent blocks.old counters.old marks.old words.old memory.old)) buffer.new
-        (reading result (lent blocks.new counters.new marks.new words.new memory.new)) }
-    ensures masks_after { masks.new ≡ masks_of trace_setup (lent blocks.new counters.new marks.new words.new memory.new) }
-{
-    let got = answer_of_read(input, buffer);
-    count_read(
-        got, count, &*buffer, blocks, counters, marks, words, memory, masks,
-    )
-}
-
-// Reads to the end of the trace. The count of turns is there so that the loop ends.
+// Reads to the end of the trace, or up to a refusal or a failed read. The range is there so that the loop ends.
 fn read_all<R: Read>(
     input: &mut R,
     buffer: &mut [u8],
@@ -146,38 +41,40 @@ fn read_all<R: Read>(
     words: &mut [u32],
     memory: &mut [u32],
     masks: &mut [u8],
-) -> Progress
+) -> Result<Count, ReadFailed<Count>>
     requires memory_value { lent blocks.old counters.old marks.old words.old memory.old ≡ fresh trace_setup }
     requires true_masks { TrueMasks trace_setup (lent blocks.old counters.old marks.old words.old memory.old) masks.old }
-    ensures reached { Reached (reading result (lent blocks.new counters.new marks.new words.new memory.new)) }
+    ensures reached { Reached (is_err result) (count_stage (so_far result) (lent blocks.new counters.new marks.new words.new memory.new)) }
     ensures masks_after { masks.new ≡ masks_of trace_setup (lent blocks.new counters.new marks.new words.new memory.new) }
 {
-    let mut at = Progress {
-        going: true,
-        failed: false,
-        count: Count::new(),
-    };
-    let mut turns = u64::MAX;
-    while turns > 0 {
-        at = read_some(
-            input, at.count, buffer, blocks, counters, marks, words, memory, masks,
-        );
-        if !at.going {
-            return at;
+    let mut count = Count::new();
+    for _turn in 0..u64::MAX {
+        let Ok(n) = input.read(buffer) else {
+            return Err(ReadFailed { before: count });
+        };
+        if n == 0 {
+            return Ok(count);
         }
-        turns -= 1;
+        let next = trace::feed(
+            count,
+            &buffer[..n],
+            blocks,
+            counters,
+            marks,
+            words,
+            memory,
+            masks,
+        );
+        let refused = next.refusal.is_some();
+        if refused {
+            return Ok(next);
+        }
+        count = next;
     }
-    at
+    Ok(count)
 }
 
-// Whether a read failed, and the report of what was read.
-#[derive(Clone, Copy)]
-pub struct Answer {
-    pub failed: bool,
-    pub report: Report,
-}
-
-// The report of the trace on the input.
+// The report of the trace on the input, or of what was read of it.
 fn read_report<R: Read>(
     input: &mut R,
     blocks: &mut [u32],
@@ -186,13 +83,13 @@ fn read_report<R: Read>(
     words: &mut [u32],
     memory: &mut [u32],
     masks: &mut [u8],
-) -> Answer
+) -> Result<Report, ReadFailed<Report>>
     requires memory_value { lent blocks.old counters.old marks.old words.old memory.old ≡ fresh trace_setup }
     requires true_masks { TrueMasks trace_setup (lent blocks.old counters.old marks.old words.old memory.old) masks.old }
     ensures { Reported result }
 {
     let mut buffer = [0u8; BUFFER];
-    let end = read_all(
+    match read_all(
         input,
         &mut buffer,
         blocks,
@@ -201,32 +98,31 @@ fn read_report<R: Read>(
         words,
         memory,
         masks,
-    );
-    let count = end.count;
-    let report = trace::finish(count, blocks, counters, marks, words, memory, masks);
-    Answer {
-        failed: end.failed,
-        report: report,
+    ) {
+        Ok(count) => Ok(trace::finish(count, blocks, counters, marks, words, memory, masks)),
+        Err(failed) => Err(ReadFailed {
+            before: trace::finish(failed.before, blocks, counters, marks, words, memory, masks),
+        }),
     }
 }
 
-// An answer, and whether its report was written.
+// The report of the trace, or of what was read of it, and whether it was written.
 #[derive(Clone, Copy)]
 pub struct Delivery {
-    pub answer: Answer,
+    pub answer: Result<Report, ReadFailed<Report>>,
     pub written: bool,
 }
 
-// Writes the report of an answer, or says on standard error why it is not written: whether it was. After a read error no totals are written, since they would be those of a part of the trace.
-fn tell<R: Print + Eprint>(rt: &R, answer: Answer) -> bool
-    ensures { Withheld answer.failed result }
+// Writes the report, or says on standard error why it is not written: whether it was. After a read error no totals are written, since they would be those of a part of the trace.
+fn tell<R: Print + Eprint>(rt: &R, answer: Result<Report, ReadFailed<Report>>) -> bool
+    ensures { Withheld (is_err answer) result }
 {
-    if answer.failed {
+    let Ok(report) = answer else {
         let _ = rt.eprintln("buscount: standard input could not be read.");
         return false;
-    }
+    };
     let mut text = [0u8; TEXT_WIDTH];
-    let length = trace_text::render(answer.report, &mut text);
+    let length = trace_text::render(report, &mut text);
     if rt.write_all(&text[..length]).is_ok() {
         return true;
     }
@@ -255,8 +151,5 @@ pub fn run<R: Input + Print + Eprint>(rt: &R) -> Delivery
         &mut masks,
     );
     let written = tell(rt, answer);
-    Delivery {
-        answer: answer,
-        written: written,
-    }
+    Delivery { answer, written }
 }

@@ -9,14 +9,14 @@ use lib.ListN.{length, drop, get_or}
 use lib.Seq.{drop-cons, drop-length}
 use lib.Dec.{leb, ltb}
 use borrow.Author.Tests.{lt-ltb, le-ltb, le-leb, lt-leb, ltb-true, ltb-false}
-use Rattle.trace_din.specs.Lines.{is_digit, is_blank, is_gap, hex_value, is_hex, leading, behind, hex_number, ends, address_digits, addressed, separated, parsed_line, line_limit, parsed}
+use Rattle.trace_din.specs.Lines.{is_digit, is_blank, is_gap, hex_value, is_hex, leading, behind, hex_number, ends, address_digits, malformed, labelled, addressed, separated, parsed_line, line_limit, parsed}
 use Rattle.trace_din.proofs.Leading.{shifted_fits, hex-lt}
 use Rattle.trace_scan.specs.Automaton.{after_blanks, after_digits, scanned_byte, new_line, with_byte, with_bytes, scan_parsed}
 use Rattle.trace_scan.specs.declared.Scan.{Scan}
 use Rattle.trace_scan.specs.declared.Scan.TheVariants.{Start, Label, Blanks, Digits, Rest, Bad}
 use Rattle.trace_scan.specs.declared.Line.{Line}
 use Rattle.trace_din.specs.declared.Parsed.{Parsed}
-use Rattle.trace_din.specs.declared.Parsed.TheVariants.{Malformed, Labelled}
+use Rattle.std.specs.Prelude.{Option, fold}
 
 -- the bytes of a line, its width apart
 abbrev scanned : Scan → List ℕ → Scan
@@ -36,8 +36,8 @@ bad-stays (b ∷ l) = bad-stays l
 -- ---- the digits
 
 -- what is parsed from here on, where n digits made v
-abbrev digits_parsed : ℕ → ℕ → ℕ → List ℕ → Parsed
-digits_parsed d n v l = cond (leb (n + length (leading is_hex l)) address_digits && ends (behind is_hex l)) (Labelled d (hex_number v (leading is_hex l))) Malformed
+abbrev digits_parsed : ℕ → ℕ → ℕ → List ℕ → Option Parsed
+digits_parsed d n v l = cond (leb (n + length (leading is_hex l)) address_digits && ends (behind is_hex l)) (labelled d (hex_number v (leading is_hex l))) malformed
 
 abbrev Digits-law : List ℕ → Type 0
 Digits-law l =
@@ -100,7 +100,7 @@ address-start d b l k true h =
     let z : hex_value b ≡ 0 + hex_value b = omega arith in
     let law = simp m at (digits l d 1 (hex_value b) (omega arith) (hex-lt b h)) in
     simp (k, h, some (length (leading is_hex l)))
-    (law ∙ ap (λ (v : ℕ). cond (leb (suc (length (leading is_hex l))) address_digits && ends (behind is_hex l)) (Labelled d (hex_number v (leading is_hex l))) Malformed) z)
+    (law ∙ ap (λ (v : ℕ). cond (leb (suc (length (leading is_hex l))) address_digits && ends (behind is_hex l)) (labelled d (hex_number v (leading is_hex l))) malformed) z)
 address-start d b l k false h = simp (k, h) (ap scan_parsed (bad-stays l))
 
 blanks-more : (d b : ℕ) (l : List ℕ) → scan_parsed (scanned (Blanks d) l) ≡ addressed d (behind is_blank l) → (e : Bool) → is_blank b ≡ e
@@ -190,6 +190,11 @@ width_some x b [] = width_positive x b (ltb x.width line_limit) refl
 width_some x b (a ∷ l) = width_some (with_byte x b) a l
 
 -- ---- a line that takes bytes
+
+-- as the library takes them
+pub bytes_fold : (x : Line) (l : List ℕ) → fold with_byte x l ≡ with_bytes x l
+bytes_fold x [] = refl
+bytes_fold x (b ∷ l) = bytes_fold (with_byte x b) l
 
 pub bytes-step : (x : Line) (l : List ℕ) (i : ℕ) → i < length l → with_bytes x (drop i l) ≡ with_bytes (with_byte x (get_or l i 0)) (drop (i + 1) l)
 bytes-step x l i h = rw (add-one, drop-cons l i 0)

@@ -1,12 +1,11 @@
 -- A line read byte by byte. That this gives `parsed` of the line's bytes is proved in proofs/Reading.antt.
-use Rattle.std.specs.Prelude.{ℕ, ◌+◌, ◌-◌, cond, List, [], ◌∷◌, ltb}
-use Rattle.trace_din.specs.Lines.{is_digit, is_blank, is_gap, hex_value, is_hex, address_digits, line_limit}
+use Rattle.std.specs.Prelude.{ℕ, ◌+◌, ◌-◌, cond, Option, List, [], ◌∷◌, ltb}
+use Rattle.trace_din.specs.Lines.{is_digit, is_blank, is_gap, hex_value, is_hex, address_digits, malformed, labelled, line_limit}
 use Rattle.trace_din.specs.Digits.{shifted}
 use Rattle.trace_scan.specs.declared.Scan.{Scan}
 use Rattle.trace_scan.specs.declared.Scan.TheVariants.{Start, Label, Blanks, Digits, Rest, Bad}
 use Rattle.trace_scan.specs.declared.Line.{Line}
 use Rattle.trace_din.specs.declared.Parsed.{Parsed}
-use Rattle.trace_din.specs.declared.Parsed.TheVariants.{Malformed, Labelled}
 
 -- ---- one byte more, by what stands before it
 
@@ -40,10 +39,10 @@ with_bytes x [] = x
 with_bytes x (b ∷ bs) = with_bytes (with_byte x b) bs
 
 -- what a line is, if it ends here
-unfoldable pub scan_parsed : Scan → Parsed
-scan_parsed Start = Malformed
-scan_parsed (Label d) = Malformed
-scan_parsed (Blanks d) = Malformed
-scan_parsed (Digits d n v) = Labelled d v
-scan_parsed (Rest d v) = Labelled d v
-scan_parsed Bad = Malformed
+unfoldable pub scan_parsed : Scan → Option Parsed
+scan_parsed Start = malformed
+scan_parsed (Label d) = malformed
+scan_parsed (Blanks d) = malformed
+scan_parsed (Digits d n v) = labelled d v
+scan_parsed (Rest d v) = labelled d v
+scan_parsed Bad = malformed

@@ -10,10 +10,21 @@ use trace_din::{ADDRESS_DIGITS, LINE_LIMIT, Parsed, hex_value, is_blank, is_gap,
 #[derive(Clone, Copy)]
 pub enum Scan {
     Start,
-    Label(u32),
-    Blanks(u32),
-    Digits(u32, u32, u32),
-    Rest(u32, u32),
+    Label {
+        label: u32,
+    },
+    Blanks {
+        label: u32,
+    },
+    Digits {
+        label: u32,
+        count: u32,
+        address: u32,
+    },
+    Rest {
+        label: u32,
+        address: u32,
+    },
     Bad,
 }
 
@@ -24,80 +35,90 @@ pub struct Line {
     pub scan: Scan,
 }
 
+#[tactic(auto, unfolding(crate::specs::Automaton::scanned_byte, trace_din::specs::Lines::is_digit))]
 fn at_start(b: u8) -> Scan
     ensures { result ≡ scanned_byte Scan.Start b }
 {
-    if b < b'0' {
-        return Scan::Bad;
+    match b {
+        b'0'..=b'9' => Scan::Label {
+            label: (b - b'0') as u32,
+        },
+        _ => Scan::Bad,
     }
-    if b > b'9' {
-        return Scan::Bad;
-    }
-    Scan::Label((b - b'0') as u32)
 }
 
+#[tactic(auto, unfolding(crate::specs::Automaton::scanned_byte))]
 fn after_label(label: u32, b: u8) -> Scan
     ensures { result ≡ scanned_byte (Scan.Label label) b }
 {
     if is_blank(b) {
-        return Scan::Blanks(label);
+        Scan::Blanks { label }
+    } else {
+        Scan::Bad
     }
-    Scan::Bad
 }
 
+#[tactic(auto, unfolding(crate::specs::Automaton::after_blanks))]
 fn after_blanks(label: u32, b: u8) -> Scan
     ensures { result ≡ after_blanks label b }
 {
     if is_blank(b) {
-        return Scan::Blanks(label);
+        return Scan::Blanks { label };
     }
-    let digit = hex_value(b);
-    if digit < 16 {
-        return Scan::Digits(label, 1, digit);
+    match hex_value(b) {
+        Some(digit) => Scan::Digits {
+            label,
+            count: 1,
+            address: digit,
+        },
+        None => Scan::Bad,
     }
-    Scan::Bad
 }
 
+#[tactic(auto, unfolding(crate::specs::Automaton::after_digits))]
 fn after_digits(label: u32, count: u32, address: u32, b: u8) -> Scan
     ensures { result ≡ after_digits label count address b }
 {
-    let digit = hex_value(b);
-    if digit < 16 {
-        if count < ADDRESS_DIGITS {
-            return Scan::Digits(label, count + 1, shift(address, digit));
-        }
-        return Scan::Bad;
+    match hex_value(b) {
+        Some(digit) if count < ADDRESS_DIGITS => Scan::Digits {
+            label,
+            count: count + 1,
+            address: shift(address, digit),
+        },
+        None if is_gap(b) => Scan::Rest { label, address },
+        _ => Scan::Bad,
     }
-    if is_gap(b) {
-        return Scan::Rest(label, address);
-    }
-    Scan::Bad
 }
 
 impl Scan {
+    // One byte more.
+    #[tactic(auto, unfolding(crate::specs::Automaton::scanned_byte))]
     pub fn byte(self, b: u8) -> Scan
         ensures { result ≡ scanned_byte self b }
     {
         match self {
             Scan::Start => at_start(b),
-            Scan::Label(label) => after_label(label, b),
-            Scan::Blanks(label) => after_blanks(label, b),
-            Scan::Digits(label, count, address) => after_digits(label, count, address, b),
-            Scan::Rest(label, address) => Scan::Rest(label, address),
-            Scan::Bad => Scan::Bad,
+            Scan::Label { label } => after_label(label, b),
+            Scan::Blanks { label } => after_blanks(label, b),
+            Scan::Digits {
+                label,
+                count,
+                address,
+            } => after_digits(label, count, address, b),
+            Scan::Rest { .. } | Scan::Bad => self,
         }
     }
 
-    pub fn parsed(self) -> Parsed
+    // What the line says, if it ends here; None if it is malformed.
+    #[tactic(auto, unfolding(crate::specs::Automaton::scan_parsed))]
+    pub fn parsed(self) -> Option<Parsed>
         ensures { result ≡ scan_parsed self }
     {
         match self {
-            Scan::Digits(label, _, address) => Parsed::Labelled(label, address),
-            Scan::Rest(label, address) => Parsed::Labelled(label, address),
-            Scan::Start => Parsed::Malformed,
-            Scan::Label(_) => Parsed::Malformed,
-            Scan::Blanks(_) => Parsed::Malformed,
-            Scan::Bad => Parsed::Malformed,
+            Scan::Digits { label, address, .. } | Scan::Rest { label, address } => {
+                Some(Parsed { label, address })
+            }
+            Scan::Start | Scan::Label { .. } | Scan::Blanks { .. } | Scan::Bad => None,
         }
     }
 }
@@ -114,20 +135,20 @@ impl Line {
     }
 
     // The line with one byte more, which is no newline.
+    #[tactic(auto, unfolding(crate::specs::Automaton::with_byte))]
     pub fn byte(self, b: u8) -> Line
         ensures { result ≡ with_byte self b }
     {
-        let width = self.width;
-        let scan = self.scan;
-        if width < LINE_LIMIT {
-            return Line {
-                width: width + 1,
-                scan: scan.byte(b),
-            };
-        }
-        Line {
-            width: LINE_LIMIT,
-            scan: Scan::Bad,
+        if self.width < LINE_LIMIT {
+            Line {
+                width: self.width + 1,
+                scan: self.scan.byte(b),
+            }
+        } else {
+            Line {
+                width: LINE_LIMIT,
+                scan: Scan::Bad,
+            }
         }
     }
 
@@ -135,20 +156,13 @@ impl Line {
     pub fn bytes(self, more: &[u8]) -> Line
         ensures { result ≡ with_bytes self more.now }
     {
-        let mut line = self;
-        let mut i = 0;
-        while i < more.len() {
-            line = line.byte(more[i]);
-            i += 1;
-        }
-        line
+        more.iter().fold(self, |line, b| line.byte(*b))
     }
 
-    // What the line is, if it ends here.
-    pub fn parsed(self) -> Parsed
+    // What the line says, if it ends here; None if it is malformed.
+    pub fn parsed(self) -> Option<Parsed>
         ensures { result ≡ scan_parsed self.scan }
     {
-        let scan = self.scan;
-        scan.parsed()
+        self.scan.parsed()
     }
 }

@@ -4,7 +4,7 @@ use Rattle.trace_text.specs.Digits.{last_digits}
 use Rattle.protocol.specs.Accounts.{cycles_of}
 use Rattle.protocol_types.specs.declared.Account.{Account}
 use Rattle.trace_din.specs.Lines.{newline}
-use Rattle.trace_lines.specs.declared.Report.{Report}
+use Rattle.trace_lines.specs.declared.ReportNumbers.{ReportNumbers}
 
 -- ---- numbers
 
@@ -75,7 +75,7 @@ account_lines a =
     ++ line total_word (cycles_of a)
 
 -- "then refusal number and line number"
-unfoldable pub text : Report → List ℕ
+unfoldable pub text : ReportNumbers → List ℕ
 text r = account_lines r.account ++ line (field ended_word r.refusal) r.line
 
 -- ---- the most bytes that they are

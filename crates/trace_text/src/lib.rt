@@ -4,6 +4,7 @@
 ghost use Rattle.std.specs.Prelude.{◌≡◌, ◌+◌, ◌≤◌, length, take};
 ghost use Rattle.trace_text.specs.Digits.{IsPrefixLen};
 ghost use Rattle.protocol.specs.Accounts.{cycles_of};
+ghost use Rattle.trace_lines.specs.Trace.{report_numbers};
 ghost use Rattle.trace_text.specs.Text.{number_width, decimal, field, line, account_lines, text, field_width, line_width, account_width, text_width, Appended};
 
 mod digits;
@@ -81,10 +82,10 @@ fn put_account(account: Account, out: &mut [u8; TEXT_WIDTH]) -> usize
 // Writes the six lines at the start of the buffer, and answers how many bytes they are.
 pub fn render(report: Report, out: &mut [u8; TEXT_WIDTH]) -> usize
     ensures prefix_len { IsPrefixLen result out.new }
-    ensures out_after { take result out.new ≡ text report }
+    ensures out_after { take result out.new ≡ text (report_numbers report) }
 {
-    let account = report.account;
-    let total = put_account(account, out);
-    let refusal = put_field(b"ended", report.refusal as u64, out, total);
-    put_line(b"", report.line as u64, out, refusal)
+    let numbers = report.numbers();
+    let total = put_account(numbers.account, out);
+    let ended = put_field(b"ended", numbers.refusal as u64, out, total);
+    put_line(b"", numbers.line as u64, out, ended)
 }

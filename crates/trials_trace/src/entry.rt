@@ -3,7 +3,7 @@ ghost use Rattle.std.specs.Prelude.{◌≤◌, length};
 
 use crate::layout;
 use crate::layout::{BYTES, Lending, ROOM};
-use trace_lines::Report;
+use trace_lines::ReportNumbers;
 use trials_cells::cells::{Cells, get, sum};
 
 // Room for a trace.
@@ -14,7 +14,7 @@ pub type Table = [u32; ROOM];
 // What the entry answered, and how many cells of its tables are not the model's.
 #[derive(Clone, Copy)]
 pub struct Counted {
-    pub report: Report,
+    pub report: ReportNumbers,
     pub unlike: u32,
 }
 
@@ -100,7 +100,7 @@ pub(crate) fn count(cells: &Cells, lending: Lending, n: u32, case: u32) -> Count
     let d = lend(&mut words, lending, case, layout::WORDS_TABLE);
     let e = lend(&mut memory, lending, case, layout::MEMORY_TABLE);
     let f = lend_bytes(cells, n, &mut bytes);
-    let report = trace::count_trace(
+    let counted = trace::count_trace(
         &bytes[..f],
         &mut blocks[..a],
         &mut counters[..b],
@@ -117,7 +117,7 @@ pub(crate) fn count(cells: &Cells, lending: Lending, n: u32, case: u32) -> Count
         unlike(cells, layout::MEMORY, &memory),
     );
     Counted {
-        report: report,
+        report: trace_lines::answer_numbers(counted),
         unlike: sum(sum(first, unlike(cells, layout::MARKS, &marks)), last),
     }
 }

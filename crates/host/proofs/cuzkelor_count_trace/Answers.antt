@@ -1,5 +1,5 @@
--- The trace counted; its report is stored number by number.
+-- The trace counted; the numbers of what it answers are stored one by one.
 use Rattle.host.proofs.cuzkelor_count_trace.Goals as goal
 
 pub returns : goal.returns
-returns c = c.count_trace-report.ensures
+returns c = rw c.answer_numbers-report.ensures c.count_trace-counted.ensures

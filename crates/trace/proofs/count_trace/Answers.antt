@@ -10,7 +10,7 @@ pub returns-in-Err : goal.returns-in-Err
 unfolding trace_setup
 returns-in-Err c =
     let e = rw c.trace_setup.ensures at c.in-Err.ensures in
-    rw c.number.ensures (not-started _ _ _ e.value e.masks_value _ (some-number _))
+    not-started _ _ _ e.value e.masks_value _ (some-number _)
 
 pub count_fresh-requires : goal.count_fresh-requires
 unfolding trace_setup

@@ -1,4 +1,4 @@
-use Prim.Native.Nat.{◌+◌, ◌-◌, ◌≤◌}
+use Prim.Native.Nat.{◌+◌}
 use mathlib.Core.Path.{◌≡◌}
 use lib.ListN.{length, drop}
 use Rattle.trace_din.specs.Lines.{is_hex, leading}
@@ -7,8 +7,5 @@ use Rattle.trace_din.proofs.address_at.Given as goal
 
 abbrev pub invariant-loop-i : goal.invariant-loop-i
 invariant-loop-i l =
-    (l.i ≤ length l.bytes) × (l.from + length (leading is_hex (drop l.from l.bytes)) ≡ l.i + length (leading is_hex (drop l.i l.bytes)))
+    (l.from + length (leading is_hex (drop l.from l.bytes)) ≡ l.i + length (leading is_hex (drop l.i l.bytes)))
     × (shifted_all 0 (leading is_hex (drop l.from l.bytes)) ≡ shifted_all l.number (leading is_hex (drop l.i l.bytes)))
-
-abbrev pub decreases-loop-i : goal.decreases-loop-i
-decreases-loop-i l = length l.bytes - l.i

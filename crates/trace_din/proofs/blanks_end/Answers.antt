@@ -1,21 +1,21 @@
--- A loop over the leading bytes that pass: from the place reached on they end where they end from the start on. A turn is `leads`, the end `leads-end` or `leads-not` (Leading).
-use mathlib.Core.Path.{refl, sym, ap, ◌∙◌}
-use native.Mathlib.Omega.{arith}
-use lib.ListN.{length}
-use borrow.Author.Tests.{not-true, not-false}
+-- The bytes that the chain takes are the leading ones that pass.
+use mathlib.Core.Path.{ap, ◌∙◌}
+use lib.ListN.{drop}
+use Rattle.std.proofs.Common.{rules, tests}
+use Rattle.std.proofs.lemmas.Iterator.{YieldsList-from_slice}
+use Rattle.std.proofs.lemmas.Iterator.Consumers.{count_from_yields_List}
+use Rattle.std.proofs.lemmas.Iterator.Search.{YieldsList-from_take_while}
+use Rattle.std.proofs.lemmas.List.Folds.{length-prefix_len}
+use Prim.Native.Nat.{ℕ, ◌+◌}
 use Rattle.trace_din.specs.Lines.{is_blank}
-use Rattle.trace_din.proofs.Leading.{leads, leads-not, leads-end}
-use Rattle.std.proofs.Common.{rules}
+use Rattle.trace_din.proofs.Leading.{rest_part, leading-length}
 use Rattle.trace_din.proofs.blanks_end.Goals as goal
 
-pub loop-i-init : goal.loop-i-init
-loop-i-init c = (search rules, refl)
-
-pub loop-i-preserved : goal.loop-i-preserved
-loop-i-preserved c = (search rules, omega (arith, c.loop-i.invariant.1, ap length (leads is_blank c.args.bytes.now c.loop-i.i c.loop-i-test.true (sym c.is_blank.ensures ∙ not-false _ c.if-not-is_blank.false-raw))))
-
-pub returns-after-loop-i : goal.returns-after-loop-i
-returns-after-loop-i c = omega (arith, c.loop-i.invariant.1, ap length (leads-end is_blank c.args.bytes.now c.loop-i.i (omega arith)))
-
-pub returns-then-not-is_blank : goal.returns-then-not-is_blank
-returns-then-not-is_blank c = omega (arith, c.loop-i.invariant.1, ap length (leads-not is_blank c.args.bytes.now c.loop-i.i c.loop-i-test.true (sym c.is_blank.ensures ∙ not-true _ c.if-not-is_blank.true-raw)))
+pub returns : goal.returns
+returns c =
+    let rest = drop c.args.from c.args.bytes.now in
+    let whole = rest_part c.args.bytes.now c.args.from in
+    ap (λ (n : ℕ). c.args.from + n)
+    (count_from_yields_List c.take_while.result _ c.count.ensures.ran (YieldsList-from_take_while _ is_blank (YieldsList-from_slice rest (cc whole)) c.take_while.ensures.closure c.take_while.ensures.done (λ x b q k. search (rules, tests)))
+    ∙ length-prefix_len is_blank rest
+    ∙ leading-length is_blank rest)

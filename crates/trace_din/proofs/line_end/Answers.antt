@@ -1,20 +1,22 @@
--- As `blanks_end`, for bytes that are no newline: a turn is `leads`, the end `leads-end` or `leads-not` (Leading).
-use mathlib.Core.Path.{refl, ap}
-use native.Mathlib.Omega.{arith}
-use lib.ListN.{length}
+-- The bytes that the chain takes are the leading ones that pass.
+use mathlib.Core.Path.{ap, ◌∙◌}
+use lib.ListN.{drop}
+use Rattle.std.proofs.Common.{rules, tests}
+use Rattle.std.proofs.lemmas.Iterator.{YieldsList-from_slice}
+use Rattle.std.proofs.lemmas.Iterator.Consumers.{count_from_yields_List}
+use Rattle.std.proofs.lemmas.Iterator.Search.{YieldsList-from_take_while}
+use Rattle.std.proofs.lemmas.List.Folds.{length-prefix_len}
+use Prim.Native.Nat.{ℕ, ◌+◌}
 use Rattle.trace_din.specs.Lines.{is_text}
-use Rattle.trace_din.proofs.Leading.{leads, leads-not, leads-end, is-text, not-text}
-use Rattle.std.proofs.Common.{rules}
+use Rattle.trace_din.proofs.Leading.{rest_part, leading-length}
 use Rattle.trace_din.proofs.line_end.Goals as goal
 
-pub loop-i-init : goal.loop-i-init
-loop-i-init c = (search rules, refl)
-
-pub loop-i-preserved : goal.loop-i-preserved
-loop-i-preserved c = (search rules, omega (arith, c.loop-i.invariant.1, ap length (leads is_text c.args.bytes.now c.loop-i.i c.loop-i-test.true (is-text _ c.if-bytes-i-eq10.false))))
-
-pub returns-after-loop-i : goal.returns-after-loop-i
-returns-after-loop-i c = omega (arith, c.loop-i.invariant.1, ap length (leads-end is_text c.args.bytes.now c.loop-i.i (omega arith)))
-
-pub returns-then-bytes-i-eq10 : goal.returns-then-bytes-i-eq10
-returns-then-bytes-i-eq10 c = omega (arith, c.loop-i.invariant.1, ap length (leads-not is_text c.args.bytes.now c.loop-i.i c.loop-i-test.true (not-text _ c.if-bytes-i-eq10.true)))
+pub returns : goal.returns
+unfolding is_text
+returns c =
+    let rest = drop c.args.from c.args.bytes.now in
+    let whole = rest_part c.args.bytes.now c.args.from in
+    ap (λ (n : ℕ). c.args.from + n)
+    (count_from_yields_List c.take_while.result _ c.count.ensures.ran (YieldsList-from_take_while _ is_text (YieldsList-from_slice rest (cc whole)) c.take_while.ensures.closure c.take_while.ensures.done (λ x b q k. search (rules, tests)))
+    ∙ length-prefix_len is_text rest
+    ∙ leading-length is_text rest)

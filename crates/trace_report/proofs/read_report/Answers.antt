@@ -1,15 +1,18 @@
 -- The count that the reads reached can be finished (`countable-reached`), and what it reports is the report of all their bytes (`reached-reported`).
-use mathlib.Core.Path.{refl}
+use Rattle.std.specs.Prelude.{Ok, Err}
 use Rattle.trace_report.proofs.Laws.{countable-reached, reached-reported}
-use Rattle.std.proofs.Common.{rules}
 use Rattle.trace_report.proofs.read_report.Goals as goal
 
-pub finish-report-requires : goal.finish-report-requires
-finish-report-requires g c = record {
-  countable = countable-reached _ c.read_all-end.ensures.reached;
-  true_masks = search rules;
-}
+pub finish-requires-clause-countable : goal.finish-requires-clause-countable
+finish-requires-clause-countable g c = countable-reached _ _ c.in-Ok.ensures.reached
 
-pub returns : goal.returns
-returns g c =
-    reached-reported _ _ _ c.read_all-end.ensures.reached refl c.finish-report.ensures.memory_value
+pub returns-in-Ok : goal.returns-in-Ok
+returns-in-Ok g c = reached-reported _ _ (Ok c.finish.result) c.in-Ok.ensures.reached c.finish.ensures.memory_value
+
+pub finish-requires-in-Err-clause-countable : goal.finish-requires-in-Err-clause-countable
+finish-requires-in-Err-clause-countable g c = countable-reached _ _ c.in-Err.ensures.reached
+
+pub returns-in-Err : goal.returns-in-Err
+returns-in-Err g c =
+    let f = c.finish-in-Err in
+    reached-reported _ _ (Err (record { before = f.result })) c.in-Err.ensures.reached f.ensures.memory_value

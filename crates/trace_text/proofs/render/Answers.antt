@@ -1,5 +1,7 @@
 -- The lines of the account and the last one, appended to an empty front (`then`, Copying): so the text fills the front of the buffer.
-use mathlib.Core.Path.{sym}
+use mathlib.Core.Path.{◌≡◌, sym, ap, ◌∙◌}
+use Rattle.trace_lines.specs.Trace.{report_numbers}
+use Rattle.trace_lines.specs.declared.ReportNumbers.{ReportNumbers}
 use mathlib.Core.List.{[], ◌∷◌, append_assoc}
 use Prim.Native.Nat.{◌+◌}
 use lib.Dec.{lit≤}
@@ -12,7 +14,8 @@ use Rattle.trace_text.proofs.render.Goals as goal
 pub returns : goal.returns
 unfolding text field line
 returns c =
-    let ended = field ended_word c.args.report.refusal in
-    let last = also (line ended c.args.report.line) (field_width ended_word + line_width []) (sym (append_assoc ended (blank ∷ decimal c.args.report.line) (newline ∷ []))) (lit≤ tt) (then c.put_field-refusal.ensures c.put_line.ensures) in
-    let w : Appended c.args.out.now 0 (text c.args.report) c.put_line.new.out c.put_line.result text_width = then c.put_account-total.ensures last in
-    record { prefix_len = (w.inside, sym (length-take-le _ _ w.inside)); out_after = w.is }
+    let n = c.numbers-numbers.result in
+    let ended = field ended_word n.refusal in
+    let last = also (line ended n.line) (field_width ended_word + line_width []) (sym (append_assoc ended (blank ∷ decimal n.line) (newline ∷ []))) (lit≤ tt) (then c.put_field-ended.ensures c.put_line.ensures) in
+    let w : Appended c.args.out.now 0 (text n) c.put_line.new.out c.put_line.result text_width = then c.put_account-total.ensures last in
+    record { prefix_len = (w.inside, sym (length-take-le _ _ w.inside)); out_after = w.is ∙ ap text c.numbers-numbers.ensures }

@@ -1,12 +1,9 @@
--- Each return is one case of `reported`: no refusal, or one.
-use borrow.Author.Tests.{ne_eqb}
-use Rattle.trace_count.specs.Counting.{reported}
+-- The refused line is the current one, if it is refused (`reported-of`).
+use mathlib.Core.Path.{refl}
+use Rattle.std.proofs.Common.{rules, tests}
+use Rattle.trace_count.specs.Counting.{count_numbers}
+use Rattle.trace_count.proofs.Laws.{reported-of}
 use Rattle.trace_count.proofs.Count.reported.Goals as goal
 
-pub returns-then-self-eq-NO_REFUSAL : goal.returns-then-self-eq-NO_REFUSAL
-unfolding reported
-returns-then-self-eq-NO_REFUSAL c = simp c.if-self-eq-NO_REFUSAL.true
-
 pub returns : goal.returns
-unfolding reported
-returns c = simp (ne_eqb _ _ c.if-self-eq-NO_REFUSAL.false)
+returns c = reported-of (count_numbers c.args.self) _ (λ x y q. search (rules, tests)) c.args.self.refusal _ refl c.map.ensures.cases
