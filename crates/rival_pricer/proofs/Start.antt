@@ -1,11 +1,13 @@
--- The price where 1, 10, 2 and 5 refuse and where they let the lists through; and over lists that may not be whole.
+-- What `map_err` tells of the answer that it was given; the price where 1, 10, 2 and 5 refuse and where they let the lists through; and over lists that may not be whole.
 -- Assumes nothing.
 use Prim.Native.Nat.{ℕ}
-use mathlib.Core.Path.{◌≡◌, refl, sym, ap, ◌∙◌}
+use mathlib.Core.Path.{◌≡◌, refl, sym, ap, subst, ◌∙◌}
 use mathlib.Core.Bool.{Bool, true, false}
 use mathlib.Core.List.{List}
 use lib.ListN.{length}
 use borrow.Author.Tests.{eq-eqb}
+use Rattle.std.specs.Prelude.{Result, Ok, Err, MatchResult, IsErrAnd}
+use Rattle.std.proofs.lemmas.Result.{err_from_is_err_and}
 use Rattle.protocol_types.specs.Refusals.{no_refusal, number}
 use Rattle.protocol_types.specs.Answers.{PriceAnswer, Refused}
 use Rattle.protocol_types.specs.declared.Setup.{Setup}
@@ -19,10 +21,25 @@ use Rattle.host_decoding.specs.Records.{partial_refusal}
 use Rattle.rival_pricing.proofs.Laws.{number-refuses}
 use Rattle.rival_pricer.specs.Priced.{price_of_lists, price_in_numbers_of_lists, price_tables_of_lists}
 
+-- what `map_err` made of an answer tells it
+pub was-ok : {A D E : Type 0} (Q : E → D → Type 0) (answer : Result A E) (made : Result A D)
+    → MatchResult answer (λ x. made ≡ Ok x) (λ e. IsErrAnd made (Q e)) → (x : A) → made ≡ Ok x → answer ≡ Ok x
+was-ok Q (Ok y) made m x is = cc
+was-ok Q (Err y) made m x is = let p = err_from_is_err_and made m in let e = p.1 in cc
+
+pub was-err : {A D E : Type 0} (Q : E → D → Type 0) (answer : Result A E) (made : Result A D)
+    → MatchResult answer (λ x. made ≡ Ok x) (λ e. IsErrAnd made (Q e)) → (d : D) → made ≡ Err d → (e : E) × (answer ≡ Err e) × Q e d
+was-err Q (Ok y) made m d is = let e : Ok y ≡ Err d = sym m ∙ is in absurd (cc)
+was-err Q (Err y) made m d is =
+    let p = err_from_is_err_and made m in
+    let same : Err p.0 ≡ Err d = sym p.1 ∙ is in
+    let e : p.0 ≡ d = cc in
+    (y, refl, subst (Q y) e p.2)
+
 -- a refused schedule leaves zeros
-pub refused-tables : (s : Setup) (v : Verdict) (n k : ℕ) → answer_to v ≡ Refused n k → no_copies s ≡ copies_after s v
-refused-tables s (accepted r c) n k e = cc
-refused-tables s (refused m j) n k e = refl
+pub refused-tables : (s : Setup) (v : Verdict) (n k : ℕ) → answer_to v ≡ Refused n k → (t : Rival) → t ≡ no_copies s → copies_after s v ≡ t
+refused-tables s (accepted r c) n k e t zeros = cc
+refused-tables s (refused m j) n k e t zeros = sym zeros
 
 -- ---- 1, 10, 2 and 5, for lists of n entries and m requests
 
@@ -41,10 +58,10 @@ module _ (s : Setup) (r : Rival) (qs : List Request) (es : List Entry) (n m : �
     pub start-knows : PricePassed s r (length es) (length qs)
     start-knows = price-passed s r (length es) (length qs) passes
 
-    pub start-passed : {a : PriceAnswer} {t : Rival} → answer_to (verdict s qs es) ≡ a → copies_after s (verdict s qs es) ≡ t
+    pub start-passed : {a : PriceAnswer} (t : Rival) → answer_to (verdict s qs es) ≡ a → copies_after s (verdict s qs es) ≡ t
         → (a ≡ price s r qs es) × (t ≡ price_tables s r qs es)
     unfolding price price_tables
-    start-passed is-a is-t =
+    start-passed t is-a is-t =
         let p = eq-eqb (price_refusal s r (length es) (length qs)) no_refusal passes in
         (rw (p, is-a), rw (p, is-t))
 

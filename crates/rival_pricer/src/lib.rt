@@ -55,10 +55,9 @@ fn play_all<C: Stores<Request>, D: Stores<Entry>>(
     for at in 0..entry_count {
         let entry = D::record_at(entries, at);
         let request = next_request(requests, next);
-        let cycles = match play_entry(setup, entry, request, blocks, held, marks) {
-            Ok(cycles) => cycles,
-            Err(refusal) => return Err(PlacedRefusal { refusal, place: at }),
-        };
+        let cycles = play_entry(setup, entry, request, blocks, held, marks).map_err(
+            move |refusal| PlacedRefusal { refusal, place: at },
+        )?;
         cost += cycles;
         if completes(entry) {
             next += 1;
@@ -88,10 +87,9 @@ fn price_whole<C: Stores<Request>, D: Stores<Entry>>(
 {
     let entry_count = D::count(entries);
     let request_count = C::count(requests);
-    match price_refusal(setup, &*blocks, &*held, &*marks, entry_count, request_count) {
-        Ok(()) => {}
-        Err(refusal) => return Err(PlacedRefusal { refusal, place: 0 }),
-    }
+    price_refusal(setup, &*blocks, &*held, &*marks, entry_count, request_count).map_err(
+        |refusal| PlacedRefusal { refusal, place: 0 },
+    )?;
     clear_all(setup, blocks, held, marks);
     match play_all(setup, blocks, held, marks, entries, requests) {
         Ok(price) => Ok(price),
