@@ -182,22 +182,32 @@ pub extern "C" fn cuzkelor_run(
         fetch_price,
         write_back_price,
     );
-    let account = Account {
+    let mut account = Account {
         requests: *account_requests,
         fetch: *account_fetch,
         write_back: *account_write_back,
         update: *account_update,
     };
-    let ran = host_numbers::run(
-        setup, blocks, counters, marks, words, memory, masks, account, requests, values,
+    let answer = host_numbers::run(
+        setup,
+        blocks,
+        counters,
+        marks,
+        words,
+        memory,
+        masks,
+        &mut account,
+        requests,
+        values,
     );
-    *account_requests = ran.account.requests;
-    *account_fetch = ran.account.fetch;
-    *account_write_back = ran.account.write_back;
-    *account_update = ran.account.update;
-    *taken = ran.answer.taken;
-    *place = ran.answer.place;
-    ran.answer.refusal
+    *account_requests = account.requests;
+    *account_fetch = account.fetch;
+    *account_write_back = account.write_back;
+    *account_update = account.update;
+    let (number, refused_place) = run::refusal_numbers(answer);
+    *taken = answer.taken;
+    *place = refused_place;
+    number
 }
 
 // The refusal number of an answer, or 0.

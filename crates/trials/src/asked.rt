@@ -4,7 +4,6 @@ ghost use Rattle.std.specs.Prelude.{◌≤◌, length};
 
 use crate::layout::{ENTRIES, REAL, REQUESTS};
 use crate::{lent, setups};
-use host_numbers::Ran;
 use protocol_types::{Account, Block, PlacedRefusal, Setup};
 use trials_cells::cells::{Cells, get, put, sum};
 use trials_cells::state;
@@ -196,7 +195,7 @@ fn start(cells: &mut Cells, setup: Setup) -> u32 {
 }
 
 // A run of the first n numbers of the requests.
-fn run(cells: &mut Cells, setup: Setup, account: Account, n: u32) -> Ran {
+fn run(cells: &mut Cells, setup: Setup, mut account: Account, n: u32) -> Answer {
     let view: &Cells = cells;
     let mut blocks = [0u32; ROOM];
     let mut counters = [0u32; ROOM];
@@ -214,7 +213,7 @@ fn run(cells: &mut Cells, setup: Setup, account: Account, n: u32) -> Ran {
     let f = lend_masks(view, &mut masks);
     let g = lend_table(view, lent::VALUES_TABLE, &mut values);
     let h = lend(view, REQUESTS, n, &mut requests);
-    let ran = host_numbers::run(
+    let answer = host_numbers::run(
         setup,
         &mut blocks[..a],
         &mut counters[..b],
@@ -222,7 +221,7 @@ fn run(cells: &mut Cells, setup: Setup, account: Account, n: u32) -> Ran {
         &mut words[..d],
         &mut memory[..e],
         &mut masks[..f],
-        account,
+        &mut account,
         &requests[..h],
         &mut values[..g],
     );
@@ -233,7 +232,8 @@ fn run(cells: &mut Cells, setup: Setup, account: Account, n: u32) -> Ran {
     back(cells, lent::MEMORY_TABLE, &memory);
     masks_back(cells, &masks);
     back(cells, lent::VALUES_TABLE, &values);
-    ran
+    let (refusal, place) = run::refusal_numbers(answer);
+    answer_of(refusal, place, answer.taken, 0, account)
 }
 
 // The price of the first m numbers of the entries for the first n numbers of the requests.
@@ -263,12 +263,6 @@ fn price(cells: &mut Cells, setup: Setup, m: u32, n: u32) -> Result<u32, PlacedR
     answer
 }
 
-fn run_answer(ran: Ran) -> Answer {
-    let answer = ran.answer;
-    let account = ran.account;
-    answer_of(answer.refusal, answer.place, answer.taken, 0, account)
-}
-
 // A legal schedule has no place, and a refused one no cost.
 fn price_answer(answer: Result<u32, PlacedRefusal>) -> Answer {
     match answer {
@@ -295,7 +289,7 @@ pub(crate) fn ask(
 ) -> Answer {
     match kind {
         state::START => answer_of(start(cells, setup), 0, 0, 0, account),
-        state::RUN => run_answer(run(cells, setup, account, n)),
+        state::RUN => run(cells, setup, account, n),
         _ => price_answer(price(cells, setup, m, n)),
     }
 }

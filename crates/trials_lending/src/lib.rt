@@ -3,7 +3,7 @@
 #![tactic(auto)]
 
 ghost use Rattle.std.specs.Prelude.{◌≡◌, length};
-ghost use Rattle.protocol_types.specs.Answers.{price_answer};
+ghost use Rattle.protocol_types.specs.Answers.{run_answer, price_answer};
 ghost use Rattle.protocol.specs.Lent.{lent_masked};
 ghost use Rattle.protocol.specs.Engines.{run as ran};
 ghost use Rattle.protocol.specs.Runs.{masked_engine};
@@ -12,13 +12,19 @@ ghost use Rattle.protocol.specs.Generator.{generate_refusal, generated};
 ghost use Rattle.rival_copies.specs.Copies.{rival_lent};
 ghost use Rattle.run_progress.specs.Progress.{outcome};
 
-use host_numbers::Ran;
-use protocol_types::{Account, Entry, PlacedRefusal, Request, Setup};
+use protocol_types::{Account, Entry, PlacedRefusal, Request, RunAnswer, Setup};
 
 // How many requests a list has, and how many entries a schedule.
 pub const REQUESTS: usize = 8;
 
 pub const ENTRIES: usize = 20;
+
+// What a run answered, and the account after it.
+#[derive(Clone, Copy)]
+pub struct Ran {
+    pub answer: RunAnswer,
+    pub account: Account,
+}
 
 // A run of the requests in an array, by the entry `run`.
 pub fn run_array(
@@ -33,7 +39,7 @@ pub fn run_array(
     requests: [Request; REQUESTS],
     values: &mut [u32],
 ) -> Ran
-    ensures { outcome result.answer (lent_masked blocks.new counters.new marks.new words.new memory.new masks.new) result.account values.new
+    ensures { outcome (run_answer result.answer) (lent_masked blocks.new counters.new marks.new words.new memory.new masks.new) result.account values.new
         ≡ ran (masked_engine setup) (lent_masked blocks.old counters.old marks.old words.old memory.old masks.old) account requests values.old }
 {
     let answer = run::run(
@@ -48,10 +54,7 @@ pub fn run_array(
         &requests,
         values,
     );
-    Ran {
-        answer: answer,
-        account: account,
-    }
+    Ran { answer, account }
 }
 
 // The price of the schedule in an array for the requests in another, by the entry `price`.

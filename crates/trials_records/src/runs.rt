@@ -2,12 +2,11 @@
 use crate::board::Tables;
 use crate::numbers::RequestNumbers;
 use crate::{board, lists, numbers, sides};
-use host_numbers::Ran;
 use protocol_types::{Account, REQUEST_LIMIT, Request, RunAnswer};
 use trials_cells::cells::{Cells, less};
 use trials_cells::state;
 use trials_cells::state::draw;
-use trials_lending::REQUESTS;
+use trials_lending::{REQUESTS, Ran};
 
 // Runs before the tables and the account are fresh again.
 const SERIES: u32 = 16;
@@ -75,7 +74,7 @@ fn by_records(at: Series, requests: [Request; REQUESTS]) -> Done {
 
 fn by_numbers(at: Series, list: RequestNumbers) -> Done {
     let tables = at.tables;
-    let account = at.account;
+    let mut account = at.account;
     let mut blocks = tables.blocks;
     let mut counters = tables.counters;
     let mut marks = tables.marks;
@@ -83,7 +82,7 @@ fn by_numbers(at: Series, list: RequestNumbers) -> Done {
     let mut memory = tables.memory;
     let mut masks = tables.masks;
     let mut values = tables.values;
-    let ran = host_numbers::run(
+    let answer = host_numbers::run(
         board::setup(),
         &mut blocks,
         &mut counters,
@@ -91,7 +90,7 @@ fn by_numbers(at: Series, list: RequestNumbers) -> Done {
         &mut words,
         &mut memory,
         &mut masks,
-        account,
+        &mut account,
         &list,
         &mut values,
     );
@@ -104,7 +103,7 @@ fn by_numbers(at: Series, list: RequestNumbers) -> Done {
         masks: masks,
         values: values,
     };
-    done_of(ran, left)
+    done_of(Ran { answer, account }, left)
 }
 
 fn lay_done(cells: &mut Cells, side: u32, done: Done) {
@@ -112,7 +111,8 @@ fn lay_done(cells: &mut Cells, side: u32, done: Done) {
     let at = done.at;
     let account = at.account;
     let tables = at.tables;
-    sides::lay_answer(cells, side, answer.refusal, answer.place, answer.taken, 0);
+    let (number, place) = run::refusal_numbers(answer);
+    sides::lay_answer(cells, side, number, place, answer.taken, 0);
     sides::lay_account(cells, side, account);
     sides::lay_tables(cells, side, tables);
 }

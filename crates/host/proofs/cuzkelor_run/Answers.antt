@@ -1,13 +1,12 @@
--- The run over numbers, at the setup of the six numbers (setup_of).
+-- The run over numbers, at the setup of the six numbers (setup_of); its answer is stored number by number.
 use mathlib.Core.Path.{ap, ◌∙◌}
+use Rattle.protocol_types.specs.Answers.{RunAnswer}
 use Rattle.protocol.specs.Lent.{lent_masked}
-use Rattle.protocol_types.specs.declared.Setup.{Setup}
-use Rattle.host_numbers.specs.Numbers.{account_of, run_numbers}
+use Rattle.run_progress.specs.Progress.{outcome}
 use Rattle.host.proofs.cuzkelor_run.Goals as goal
 
 pub returns : goal.returns
 returns c =
-    let a = c.args in
-    let T = lent_masked a.blocks.now a.counters.now a.marks.now a.words.now a.memory.now a.masks.now in
-    let before = account_of a.account_requests.now a.account_fetch.now a.account_write_back.now a.account_update.now in
-    c.run-ran.ensures ∙ ap (λ (s : Setup). run_numbers s T before a.requests.now a.values.now) c.setup_of-setup.ensures
+    let n = c.run-answer.new in
+    ap (λ (r : RunAnswer). outcome r (lent_masked n.blocks n.counters n.marks n.words n.memory n.masks) n.account n.values) c.refusal_numbers-number.ensures
+    ∙ rw c.setup_of-setup.ensures at c.run-answer.ensures
