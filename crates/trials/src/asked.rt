@@ -4,9 +4,9 @@ ghost use Rattle.std.specs.Prelude.{◌≤◌, length};
 
 use crate::layout::{ENTRIES, REAL, REQUESTS};
 use crate::{lent, setups};
-use protocol_types::{Account, Block, PlacedRefusal, Setup};
+use protocol_types::{Account, Block, PlacedRefusal, Refusal, Setup};
 use trials_cells::cells::{Cells, get, put, sum};
-use trials_cells::state;
+use trials_cells::state::Kind;
 
 // Room for the longest table.
 pub const ROOM: usize = 8200;
@@ -23,26 +23,46 @@ const REAL_MASKS: u32 = REAL + lent::MASKS;
 // What an entry answered, or the model; 0 and a fresh account stand where a kind has no such part.
 #[derive(Clone, Copy)]
 pub struct Answer {
-    pub refusal: u32,
-    pub place: usize,
+    pub refused: Option<PlacedRefusal>,
     pub taken: usize,
     pub cost: u32,
     pub account: Account,
 }
 
-pub(crate) fn answer_of(
-    refusal: u32,
-    place: usize,
-    taken: usize,
-    cost: u32,
-    account: Account,
-) -> Answer {
-    Answer {
-        refusal: refusal,
-        place: place,
-        taken: taken,
-        cost: cost,
-        account: account,
+impl Answer {
+    // A legal schedule has no place.
+    pub(crate) fn priced(cost: u32, account: Account) -> Answer {
+        Answer {
+            refused: None,
+            taken: 0,
+            cost,
+            account,
+        }
+    }
+
+    // Where no request was taken and nothing cost anything.
+    pub(crate) fn refused(refused: PlacedRefusal, account: Account) -> Answer {
+        Answer {
+            refused: Some(refused),
+            taken: 0,
+            cost: 0,
+            account,
+        }
+    }
+
+    pub(crate) fn started(started: Result<(), Refusal>, account: Account) -> Answer {
+        match started {
+            Ok(()) => Answer::priced(0, account),
+            Err(refusal) => Answer::refused(PlacedRefusal { refusal, place: 0 }, account),
+        }
+    }
+}
+
+// The refusal number, or 0.
+pub(crate) fn refusal_number(refused: Option<PlacedRefusal>) -> u32 {
+    match refused {
+        Some(refused) => refused.refusal.number(),
+        None => 0,
     }
 }
 
@@ -50,34 +70,23 @@ pub(crate) fn answer_of(
 fn within_room(n: u32) -> usize
     ensures { result ≤ 8200 }
 {
-    let k = n as usize;
-    if k <= ROOM {
-        return k;
-    }
-    ROOM
+    ROOM.min(n as usize)
 }
 
 fn set(table: &mut [u32], k: u32, x: u32) {
-    let i = k as usize;
-    if i < table.len() {
-        table[i] = x;
+    if let Some(cell) = table.get_mut(k as usize) {
+        *cell = x;
     }
 }
 
 fn element(table: &Table, k: u32) -> u32 {
-    let i = k as usize;
-    if i < ROOM {
-        return table[i];
-    }
-    0
+    table.get(k as usize).copied().unwrap_or(0)
 }
 
 // The n cells from `first` on go to an array.
 fn fill(cells: &Cells, first: u32, n: u32, to: &mut [u32]) {
-    let mut k = 0;
-    while k < n {
+    for k in 0..n {
         set(to, k, get(cells, first, k));
-        k += 1;
     }
 }
 
@@ -101,38 +110,25 @@ fn lend_table(cells: &Cells, table: u32, to: &mut Table) -> usize
 fn back(cells: &mut Cells, table: u32, from: &Table) {
     let n = lent::length(cells, table);
     let first = sum(REAL, lent::table_place(table));
-    let mut k = 0;
-    while k < n {
+    for k in 0..n {
         put(cells, first, k, element(from, k));
-        k += 1;
     }
 }
 
 fn set_mask(masks: &mut [u8], k: u32, x: u32) {
-    let i = k as usize;
-    if i < masks.len() {
-        masks[i] = (x % 256) as u8;
+    if let Some(mask) = masks.get_mut(k as usize) {
+        *mask = (x % 256) as u8;
     }
-}
-
-fn wide(byte: u8) -> u32 {
-    byte as u32
 }
 
 fn mask_at(masks: &Masks, k: u32) -> u32 {
-    let i = k as usize;
-    if i < MASK_ROOM {
-        return wide(masks[i]);
-    }
-    0
+    u32::from(masks.get(k as usize).copied().unwrap_or(0))
 }
 
 // The n masks go to an array.
 fn fill_masks(cells: &Cells, n: u32, to: &mut [u8]) {
-    let mut k = 0;
-    while k < n {
+    for k in 0..n {
         set_mask(to, k, get(cells, REAL_MASKS, k));
-        k += 1;
     }
 }
 
@@ -142,24 +138,18 @@ fn lend_masks(cells: &Cells, to: &mut Masks) -> usize
 {
     let n = lent::length(cells, lent::MASKS_TABLE);
     fill_masks(cells, n, to);
-    let all = n as usize;
-    if all <= MASK_ROOM {
-        return all;
-    }
-    MASK_ROOM
+    MASK_ROOM.min(n as usize)
 }
 
 // The masks come back from their array.
 fn masks_back(cells: &mut Cells, from: &Masks) {
     let n = lent::length(cells, lent::MASKS_TABLE);
-    let mut k = 0;
-    while k < n {
+    for k in 0..n {
         put(cells, REAL_MASKS, k, mask_at(from, k));
-        k += 1;
     }
 }
 
-fn start(cells: &mut Cells, setup: Setup) -> u32 {
+fn start(cells: &mut Cells, setup: Setup) -> Result<(), Refusal> {
     let view: &Cells = cells;
     let mut blocks = [0u32; ROOM];
     let mut counters = [0u32; ROOM];
@@ -188,10 +178,7 @@ fn start(cells: &mut Cells, setup: Setup) -> u32 {
     back(cells, lent::WORDS_TABLE, &words);
     back(cells, lent::MEMORY_TABLE, &memory);
     masks_back(cells, &masks);
-    match started {
-        Ok(()) => 0,
-        Err(refusal) => refusal.number(),
-    }
+    started
 }
 
 // A run of the first n numbers of the requests.
@@ -232,8 +219,12 @@ fn run(cells: &mut Cells, setup: Setup, mut account: Account, n: u32) -> Answer 
     back(cells, lent::MEMORY_TABLE, &memory);
     masks_back(cells, &masks);
     back(cells, lent::VALUES_TABLE, &values);
-    let (refusal, place) = run::refusal_numbers(answer);
-    answer_of(refusal, place, answer.taken, 0, account)
+    Answer {
+        refused: answer.refused,
+        taken: answer.taken,
+        cost: 0,
+        account,
+    }
 }
 
 // The price of the first m numbers of the entries for the first n numbers of the requests.
@@ -263,17 +254,10 @@ fn price(cells: &mut Cells, setup: Setup, m: u32, n: u32) -> Result<u32, PlacedR
     answer
 }
 
-// A legal schedule has no place, and a refused one no cost.
 fn price_answer(answer: Result<u32, PlacedRefusal>) -> Answer {
     match answer {
-        Ok(cost) => answer_of(0, 0, 0, cost, setups::fresh_account()),
-        Err(refused) => answer_of(
-            refused.refusal.number(),
-            refused.place,
-            0,
-            0,
-            setups::fresh_account(),
-        ),
+        Ok(cost) => Answer::priced(cost, setups::fresh_account()),
+        Err(refused) => Answer::refused(refused, setups::fresh_account()),
     }
 }
 
@@ -281,15 +265,15 @@ fn price_answer(answer: Result<u32, PlacedRefusal>) -> Answer {
 // many numbers of the requests.
 pub(crate) fn ask(
     cells: &mut Cells,
-    kind: u32,
+    kind: Kind,
     setup: Setup,
     account: Account,
     m: u32,
     n: u32,
 ) -> Answer {
     match kind {
-        state::START => answer_of(start(cells, setup), 0, 0, 0, account),
-        state::RUN => run(cells, setup, account, n),
+        Kind::Start => Answer::started(start(cells, setup), account),
+        Kind::Run => run(cells, setup, account, n),
         _ => price_answer(price(cells, setup, m, n)),
     }
 }
@@ -297,12 +281,10 @@ pub(crate) fn ask(
 // How many of the words that a look showed differ from the cells from `first` on.
 fn unlike(shown: &[u32], cells: &Cells, first: u32) -> u32 {
     let mut count = 0;
-    let mut k = 0;
-    while k < shown.len() {
-        if shown[k] != cell_after(cells, first, k) {
+    for (k, x) in shown.iter().enumerate() {
+        if *x != cell_after(cells, first, k) {
             count = sum(count, 1);
         }
-        k += 1;
     }
     count
 }

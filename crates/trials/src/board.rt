@@ -34,18 +34,22 @@ pub(crate) fn set_counter(cells: &mut Cells, i: u32, b: u32, x: u32) {
     put(cells, FACTS, pair(i, b), x);
 }
 
-// One more than the processor that has block b marked; 0 if none has.
-pub(crate) fn owner(cells: &Cells, b: u32) -> u32 {
-    get(cells, OWNERS, b)
+// The processor that has block b marked, if one has. In the cells it is one more, and 0 if none has.
+pub(crate) fn owner(cells: &Cells, b: u32) -> Option<u32> {
+    get(cells, OWNERS, b).checked_sub(1)
 }
 
-pub(crate) fn set_owner(cells: &mut Cells, b: u32, x: u32) {
-    put(cells, OWNERS, b, x);
+pub(crate) fn set_owner(cells: &mut Cells, b: u32, i: u32) {
+    put(cells, OWNERS, b, sum(i, 1));
+}
+
+pub(crate) fn clear_owner(cells: &mut Cells, b: u32) {
+    put(cells, OWNERS, b, 0);
 }
 
 // Whether processor i has block b marked.
 pub(crate) fn owns(cells: &Cells, i: u32, b: u32) -> bool {
-    owner(cells, b) == sum(i, 1)
+    owner(cells, b) == Some(i)
 }
 
 // The value of variable v in every copy of its block.
@@ -66,100 +70,60 @@ pub(crate) fn set_stored(cells: &mut Cells, v: u32, x: u32) {
 pub(crate) fn save(cells: &mut Cells, p: u32, b: u32) {
     let v = product(b, p);
     copy(cells, sum(CURRENT, v), sum(MEMORY, v), p);
-    set_owner(cells, b, 0);
+    clear_owner(cells, b);
 }
 
-// The lowest-numbered processor other than i with a copy of block b; PROCESSORS if none. It is sought from the top.
-pub(crate) fn other_holder(cells: &Cells, i: u32, b: u32) -> u32 {
-    let mut found = PROCESSORS;
-    let mut j = PROCESSORS;
-    while j > 0 {
-        j -= 1;
-        if j != i {
-            if counter(cells, j, b) > 0 {
-                found = j;
-            }
-        }
-    }
-    found
+// Whether a processor other than i has a copy of block b.
+pub(crate) fn shared(cells: &Cells, i: u32, b: u32) -> bool {
+    (0..PROCESSORS).any(|j| j != i && counter(cells, j, b) > 0)
 }
 
 // The processors with a copy of block b, bit i for processor i. From the top, each doubles what is there.
 pub(crate) fn holders(cells: &Cells, b: u32) -> u32 {
     let mut bits = 0;
-    let mut i = PROCESSORS;
-    while i > 0 {
-        i -= 1;
-        bits = sum(product(bits, 2), (counter(cells, i, b) > 0) as u32);
+    for i in (0..PROCESSORS).rev() {
+        bits = sum(product(bits, 2), u32::from(counter(cells, i, b) > 0));
     }
     bits
 }
 
 // The smaller of two counters, of which 0 is none.
 fn smaller(a: u32, c: u32) -> u32 {
-    if a == 0 {
-        return c;
-    }
-    if c == 0 {
-        return a;
-    }
-    if c < a {
-        return c;
-    }
-    a
+    if a == 0 || 0 < c && c < a { c } else { a }
 }
 
 // The smallest counter of a copy of block b that a processor other than i has; 0 if no other has one.
 fn smallest_counter(cells: &Cells, i: u32, b: u32) -> u32 {
     let mut smallest = 0;
-    let mut j = 0;
-    while j < PROCESSORS {
+    for j in 0..PROCESSORS {
         if j != i {
             smallest = smaller(smallest, counter(cells, j, b));
         }
-        j += 1;
     }
     smallest
 }
 
-// Who pays for a write to block b by processor i; PROCESSORS if no other has a copy. The smallest counter is sought
-// first, and then who has it.
-pub(crate) fn payer(cells: &Cells, i: u32, b: u32) -> u32 {
+// Who pays for a write to block b by processor i, if another has a copy. The smallest counter is sought first, and then
+// who has it.
+pub(crate) fn payer(cells: &Cells, i: u32, b: u32) -> Option<u32> {
     let smallest = smallest_counter(cells, i, b);
     if smallest == 0 {
-        return PROCESSORS;
+        return None;
     }
-    let mut j = 0;
-    while j < PROCESSORS {
-        if j != i && counter(cells, j, b) == smallest {
-            return j;
-        }
-        j += 1;
-    }
-    PROCESSORS
+    (0..PROCESSORS).find(|j| *j != i && counter(cells, *j, b) == smallest)
 }
 
 // Whether processor i has block a, and a may stand only where b may, of `lines` lines.
 fn collides(cells: &Cells, lines: u32, i: u32, a: u32, b: u32) -> bool {
-    if counter(cells, i, a) == 0 {
-        return false;
-    }
-    remainder(a, lines) == remainder(b, lines)
+    counter(cells, i, a) != 0 && remainder(a, lines) == remainder(b, lines)
 }
 
-// The block of processor i that stands where block b may; BLOCKS if none.
-pub(crate) fn in_the_way(cells: &Cells, lines: u32, i: u32, b: u32) -> u32 {
-    let mut a = 0;
-    while a < BLOCKS {
-        if collides(cells, lines, i, a, b) {
-            return a;
-        }
-        a += 1;
-    }
-    BLOCKS
+// The block of processor i that stands where block b may.
+pub(crate) fn in_the_way(cells: &Cells, lines: u32, i: u32, b: u32) -> Option<u32> {
+    (0..BLOCKS).find(|a| collides(cells, lines, i, *a, b))
 }
 
-// The first block that processor i has; BLOCKS if its cache is empty. In a single line any block is in the way.
-pub(crate) fn first_held(cells: &Cells, i: u32) -> u32 {
+// The first block that processor i has, unless its cache is empty. In a single line any block is in the way.
+pub(crate) fn first_held(cells: &Cells, i: u32) -> Option<u32> {
     in_the_way(cells, 1, i, 0)
 }

@@ -20,15 +20,10 @@ const WANTED_MASKS: u32 = WANTED + lent::MASKS;
 
 // The first slot from k on that is not empty, in turn; k if all are.
 pub(crate) fn held_slot(cells: &Cells, slots: u32, k: u32) -> u32 {
-    let mut t = 0;
-    while t < slots {
-        let at = remainder(sum(k, t), slots);
-        if get(cells, COUNTERS, at) > 0 {
-            return at;
-        }
-        t += 1;
-    }
-    k
+    (0..slots)
+        .map(|t| remainder(sum(k, t), slots))
+        .find(|at| get(cells, COUNTERS, *at) > 0)
+        .unwrap_or(k)
 }
 
 // The block number in slot k.
@@ -84,9 +79,10 @@ fn damage_cell(cells: &mut Cells, setup: Setup, k: u32, how: u32, x: u32) {
 // The slot that is damaged: any, once in four times, or else the first held one from it on.
 fn damaged_slot(cells: &Cells, slots: u32, any: u32, seek: u32) -> u32 {
     if seek == 0 {
-        return any;
+        any
+    } else {
+        held_slot(cells, slots, any)
     }
-    held_slot(cells, slots, any)
 }
 
 // Damage to one line, held or empty.

@@ -3,16 +3,15 @@
 // ones.
 use crate::board;
 use crate::board::{
-    BLOCKS, PROCESSORS, clear, counter, current, holders, other_holder, owner, owns, set_counter,
-    set_owner,
+    BLOCKS, clear, counter, current, holders, owner, owns, set_counter, set_owner, shared,
 };
 use crate::layout::{
     LENGTHS, MOST_BLOCKS, MOST_FETCH_PRICE, MOST_LINES, MOST_PROCESSORS, MOST_WORDS, PAIRS, REAL,
     TABLE_CELLS, WANTED,
 };
-use protocol_types::{NO_REFUSAL, PRICE_OUT_OF_RANGE, SETUP_OUT_OF_RANGE, Setup, WRONG_LENGTH};
+use protocol_types::{Refusal, Setup};
 use trials_cells::cells::{
-    Cells, copy, differences, get, less, product, put, quotient, remainder, sum, wipe,
+    Cells, copy, differences, get, product, put, quotient, remainder, sum, wipe,
 };
 
 // The tables' numbers.
@@ -108,10 +107,8 @@ fn right_length(setup: Setup, values: u32, table: u32) -> u32 {
 
 // All lengths become right.
 pub(crate) fn put_lengths(cells: &mut Cells, setup: Setup, values: u32) {
-    let mut table = 0;
-    while table < ALL {
+    for table in 0..ALL {
         put(cells, LENGTHS, table, right_length(setup, values, table));
-        table += 1;
     }
 }
 
@@ -121,35 +118,27 @@ fn outside(x: u32, most: u32) -> bool {
 
 // Whether a size of the board is out of range.
 fn sizes_wrong(setup: Setup) -> bool {
-    if outside(setup.processors, MOST_PROCESSORS) {
-        return true;
-    }
-    if outside(setup.lines, MOST_LINES) {
-        return true;
-    }
-    if outside(setup.words, MOST_WORDS) {
-        return true;
-    }
-    outside(setup.blocks, MOST_BLOCKS)
+    outside(setup.processors, MOST_PROCESSORS)
+        || outside(setup.lines, MOST_LINES)
+        || outside(setup.words, MOST_WORDS)
+        || outside(setup.blocks, MOST_BLOCKS)
 }
 
 // Whether a price is out of range: a write-back may cost as much as a fetch, and no more.
 fn prices_wrong(setup: Setup) -> bool {
-    if outside(setup.fetch_price, MOST_FETCH_PRICE) {
-        return true;
-    }
-    outside(setup.write_back_price, setup.fetch_price)
+    outside(setup.fetch_price, MOST_FETCH_PRICE)
+        || outside(setup.write_back_price, setup.fetch_price)
 }
 
-// The refusal of a setup, or 0.
-pub(crate) fn setup_refusal(setup: Setup) -> u32 {
+// Whether a setup is refused.
+pub(crate) fn check_setup(setup: Setup) -> Result<(), Refusal> {
     if sizes_wrong(setup) {
-        return SETUP_OUT_OF_RANGE;
+        return Err(Refusal::SetupOutOfRange);
     }
     if prices_wrong(setup) {
-        return PRICE_OUT_OF_RANGE;
+        return Err(Refusal::PriceOutOfRange);
     }
-    NO_REFUSAL
+    Ok(())
 }
 
 pub(crate) fn length_wrong(cells: &Cells, setup: Setup, values: u32, table: u32) -> bool {
@@ -158,14 +147,7 @@ pub(crate) fn length_wrong(cells: &Cells, setup: Setup, values: u32, table: u32)
 
 // Whether one of the first n tables has another length than it should.
 pub(crate) fn lengths_wrong(cells: &Cells, setup: Setup, values: u32, n: u32) -> bool {
-    let mut table = 0;
-    while table < n {
-        if length_wrong(cells, setup, values, table) {
-            return true;
-        }
-        table += 1;
-    }
-    false
+    (0..n).any(|table| length_wrong(cells, setup, values, table))
 }
 
 // The n variables are in main memory, and current.
@@ -177,12 +159,10 @@ fn load_memory(cells: &mut Cells, n: u32) {
 // How many of the n cells from `first` on are not 0.
 fn filled(cells: &Cells, first: u32, n: u32) -> u32 {
     let mut count = 0;
-    let mut k = 0;
-    while k < n {
+    for k in 0..n {
         if get(cells, first, k) != 0 {
             count = sum(count, 1);
         }
-        k += 1;
     }
     count
 }
@@ -218,10 +198,10 @@ fn empty_faults(cells: &Cells, k: u32, p: u32) -> u32 {
 
 // A marked copy in slot k, of processor i: its words are the current ones. A second mark is a fault.
 fn load_marked(cells: &mut Cells, k: u32, i: u32, b: u32, p: u32) -> u32 {
-    if owner(cells, b) != 0 {
+    if owner(cells, b).is_some() {
         return 1;
     }
-    set_owner(cells, b, sum(i, 1));
+    set_owner(cells, b, i);
     load_words(cells, k, b, p);
     0
 }
@@ -243,14 +223,10 @@ fn load_copy(cells: &mut Cells, setup: Setup, k: u32, b: u32) -> u32 {
 
 // Whether slot k, which is not empty, has a counter over f, or a block that may not stand there.
 fn slot_wrong(cells: &Cells, setup: Setup, k: u32) -> bool {
-    if get(cells, WANTED_COUNTERS, k) > setup.fetch_price {
-        return true;
-    }
     let b = get(cells, WANTED, k);
-    if b >= setup.blocks {
-        return true;
-    }
-    remainder(b, setup.lines) != remainder(k, setup.lines)
+    get(cells, WANTED_COUNTERS, k) > setup.fetch_price
+        || b >= setup.blocks
+        || remainder(b, setup.lines) != remainder(k, setup.lines)
 }
 
 // The faults of slot k.
@@ -267,36 +243,24 @@ fn load_slot(cells: &mut Cells, setup: Setup, k: u32) -> u32 {
 
 fn load_slots(cells: &mut Cells, setup: Setup, n: u32) -> u32 {
     let mut faults = 0;
-    let mut k = 0;
-    while k < n {
+    for k in 0..n {
         faults = sum(faults, load_slot(cells, setup, k));
-        k += 1;
     }
     faults
 }
 
 // A marked block has counter f and one holder.
 fn block_faults(cells: &Cells, fetch_price: u32, b: u32) -> u32 {
-    let marked = owner(cells, b);
-    if marked == 0 {
-        return 0;
+    match owner(cells, b) {
+        Some(i) => u32::from(counter(cells, i, b) != fetch_price || shared(cells, i, b)),
+        None => 0,
     }
-    let i = less(marked, 1);
-    if counter(cells, i, b) != fetch_price {
-        return 1;
-    }
-    if other_holder(cells, i, b) < PROCESSORS {
-        return 1;
-    }
-    0
 }
 
 fn all_block_faults(cells: &Cells, fetch_price: u32) -> u32 {
     let mut faults = 0;
-    let mut b = 0;
-    while b < BLOCKS {
+    for b in 0..BLOCKS {
         faults = sum(faults, block_faults(cells, fetch_price, b));
-        b += 1;
     }
     faults
 }
@@ -312,12 +276,10 @@ pub(crate) fn load(cells: &mut Cells, setup: Setup) -> u32 {
 // How many of the n masks do not say who holds the block.
 pub(crate) fn false_masks(cells: &Cells, n: u32) -> u32 {
     let mut count = 0;
-    let mut b = 0;
-    while b < n {
+    for b in 0..n {
         if get(cells, WANTED_MASKS, b) != holders(cells, b) {
             count = sum(count, 1);
         }
-        b += 1;
     }
     count
 }
@@ -333,7 +295,7 @@ fn lay_line(cells: &mut Cells, setup: Setup, i: u32, b: u32) {
     if held == 0 {
         return;
     }
-    let marked = owns(cells, i, b) as u32;
+    let marked = u32::from(owns(cells, i, b));
     let k = slot(setup, i, b);
     put(cells, WANTED, k, b);
     put(cells, WANTED_COUNTERS, k, held);
@@ -342,10 +304,8 @@ fn lay_line(cells: &mut Cells, setup: Setup, i: u32, b: u32) {
 
 // Block numbers, counters and marks, which were 0: for each processor and block.
 pub(crate) fn lay_lines(cells: &mut Cells, setup: Setup) {
-    let mut k = 0;
-    while k < PAIRS {
+    for k in 0..PAIRS {
         lay_line(cells, setup, k / BLOCKS, k % BLOCKS);
-        k += 1;
     }
 }
 
@@ -356,10 +316,8 @@ fn wipe_table(cells: &mut Cells, table: u32) {
 
 // The first n tables, as long as they are lent, become 0.
 pub(crate) fn wipe_tables(cells: &mut Cells, n: u32) {
-    let mut table = 0;
-    while table < n {
+    for table in 0..n {
         wipe_table(cells, table);
-        table += 1;
     }
 }
 
@@ -379,10 +337,8 @@ fn lay_word(cells: &mut Cells, p: u32, w: u32) {
 }
 
 fn lay_words(cells: &mut Cells, p: u32, n: u32) {
-    let mut w = 0;
-    while w < n {
+    for w in 0..n {
         lay_word(cells, p, w);
-        w += 1;
     }
 }
 
@@ -393,10 +349,8 @@ fn lay_mask(cells: &mut Cells, b: u32) {
 
 // The n masks become who holds each block.
 pub(crate) fn lay_masks(cells: &mut Cells, n: u32) {
-    let mut b = 0;
-    while b < n {
+    for b in 0..n {
         lay_mask(cells, b);
-        b += 1;
     }
 }
 
@@ -409,43 +363,31 @@ pub(crate) fn lay_out(cells: &mut Cells, setup: Setup) {
     lay_masks(cells, setup.blocks);
 }
 
-// Starting, over lent tables, which become what they should be after it: the refusal number, or 0.
-pub(crate) fn start(cells: &mut Cells, setup: Setup) -> u32 {
-    let refusal = setup_refusal(setup);
-    if refusal != NO_REFUSAL {
-        return refusal;
-    }
+// Starting, over lent tables, which become what they should be after it, unless it is refused.
+pub(crate) fn start(cells: &mut Cells, setup: Setup) -> Result<(), Refusal> {
+    check_setup(setup)?;
     if lengths_wrong(cells, setup, 0, STARTED) {
-        return WRONG_LENGTH;
+        return Err(Refusal::WrongLength);
     }
     wipe_tables(cells, STARTED);
-    NO_REFUSAL
+    Ok(())
 }
 
 // Whether the tables that a look is lent, at a right setup, have other lengths. Those of marks and memory play no part.
 fn look_lengths_wrong(cells: &Cells, setup: Setup) -> bool {
-    if lengths_wrong(cells, setup, 0, 2) {
-        return true;
-    }
-    length_wrong(cells, setup, 0, WORDS_TABLE)
+    lengths_wrong(cells, setup, 0, 2) || length_wrong(cells, setup, 0, WORDS_TABLE)
 }
 
 // Whether a look at block b of processor i shows it, in the real tables.
 pub(crate) fn shows(cells: &Cells, setup: Setup, i: u32, b: u32) -> bool {
-    if setup_refusal(setup) != NO_REFUSAL {
-        return false;
-    }
-    if look_lengths_wrong(cells, setup) {
+    if check_setup(setup).is_err() || look_lengths_wrong(cells, setup) {
         return false;
     }
     if i >= setup.processors || b >= setup.blocks {
         return false;
     }
     let k = slot(setup, i, b);
-    if get(cells, REAL_COUNTERS, k) == 0 {
-        return false;
-    }
-    get(cells, REAL, k) == b
+    get(cells, REAL_COUNTERS, k) != 0 && get(cells, REAL, k) == b
 }
 
 // Where the words of block b stand, in processor i's cache, in the real tables.

@@ -33,16 +33,31 @@ pub(crate) fn numbers_of(n: u32) -> u32 {
     product(n, REQUEST_WIDTH)
 }
 
-// The operations by number. Any other number reads.
-pub const WRITE: u32 = 1;
+// The numbers of operations. Any other number reads.
+const WRITE: u32 = 1;
 
-pub const CLEAR: u32 = 2;
+const CLEAR: u32 = 2;
+
+#[derive(Clone, Copy, PartialEq, Eq)]
+pub enum Operation {
+    Read,
+    Write,
+    Clear,
+}
+
+fn operation_of(number: u32) -> Operation {
+    match number {
+        WRITE => Operation::Write,
+        CLEAR => Operation::Clear,
+        _ => Operation::Read,
+    }
+}
 
 // A request. A read has no use for the value, and a clear none for the variable either.
 #[derive(Clone, Copy)]
 pub struct Request {
     pub processor: u32,
-    pub operation: u32,
+    pub operation: Operation,
     pub variable: u32,
     pub value: u32,
 }
@@ -56,7 +71,7 @@ pub(crate) fn request_at(cells: &Cells, t: u32) -> Request {
     let first = request_place(t);
     Request {
         processor: get(cells, first, 0),
-        operation: get(cells, first, 1),
+        operation: operation_of(get(cells, first, 1)),
         variable: get(cells, first, 2),
         value: get(cells, first, 3),
     }
@@ -103,8 +118,7 @@ fn perhaps_over(cells: &mut Cells, x: u32, bound: u32, wild: u32) -> u32 {
 // Half of the requests write, and one in 16 clears: seldom enough that caches fill in between. Of the others some read by
 // a number that is not 0.
 fn pick_operation(cells: &mut Cells) -> u32 {
-    let roll = draw(cells, 16);
-    match roll {
+    match draw(cells, 16) {
         0 => CLEAR,
         1 => 3,
         2 => u32::MAX,
@@ -115,10 +129,7 @@ fn pick_operation(cells: &mut Cells) -> u32 {
 
 // Once in how many times a request's variable is out of range. A clear's, which plays no part, is so every second time.
 fn wild_variable(operation: u32, wild: u32) -> u32 {
-    if operation == CLEAR {
-        return 2;
-    }
-    wild
+    if operation == CLEAR { 2 } else { wild }
 }
 
 fn put_request(cells: &mut Cells, t: u32, processor: u32, operation: u32, variable: u32, x: u32) {
@@ -146,10 +157,8 @@ fn pick_request(cells: &mut Cells, setup: Setup, t: u32, wild: u32) {
 
 // n requests. Each number of one that plays a part is out of range once in `wild` times.
 pub(crate) fn pick_requests(cells: &mut Cells, setup: Setup, n: u32, wild: u32) {
-    let mut t = 0;
-    while t < n {
+    for t in 0..n {
         pick_request(cells, setup, t, wild);
-        t += 1;
     }
 }
 
@@ -167,33 +176,28 @@ fn shared_request(cells: &mut Cells, fetch_price: u32, t: u32) {
         return;
     }
     let again = reads_again(fetch_price, t);
-    put_request(cells, t, again as u32, !again as u32, 0, x);
+    put_request(cells, t, u32::from(again), u32::from(!again), 0, x);
 }
 
 // Variable 0 is written by 0, whose cache is then cleared, over and over: the engine pays f + g each time, and a rival that
 // broadcasts f + 1.
 fn flushed_request(cells: &mut Cells, t: u32) {
     let x = word(cells);
-    if remainder(t, 2) == 1 {
-        put_request(cells, t, 0, CLEAR, 0, x);
-        return;
-    }
-    put_request(cells, t, 0, WRITE, 0, x);
+    let operation = if remainder(t, 2) == 1 { CLEAR } else { WRITE };
+    put_request(cells, t, 0, operation, 0, x);
 }
 
 fn tight_request(cells: &mut Cells, fetch_price: u32, t: u32, clears: bool) {
     if clears {
         flushed_request(cells, t);
-        return;
+    } else {
+        shared_request(cells, fetch_price, t);
     }
-    shared_request(cells, fetch_price, t);
 }
 
 // A list for which a rival may pay about half of what the engine does, with clears or without.
 pub(crate) fn tight_requests(cells: &mut Cells, fetch_price: u32, n: u32, clears: bool) {
-    let mut t = 0;
-    while t < n {
+    for t in 0..n {
         tight_request(cells, fetch_price, t, clears);
-        t += 1;
     }
 }

@@ -17,6 +17,7 @@ mod setups;
 use crate::run_trials::Series;
 use trials_cells::cells::Cells;
 use trials_cells::state;
+use trials_cells::state::Kind;
 
 const FIRST_SEED: u32 = 20261115;
 
@@ -28,10 +29,8 @@ const RUNS: u32 = 24000;
 const PRICES: u32 = 16000;
 
 fn starts(rt: &impl Print, cells: &mut Cells, n: u32) {
-    let mut k = 0;
-    while k < n {
+    for k in 0..n {
         run_trials::start_case(rt, cells, k);
-        k += 1;
     }
 }
 
@@ -42,36 +41,27 @@ fn series(rt: &impl Print, cells: &mut Cells, n: u32) {
         account: setups::fresh_account(),
         left: 0,
     };
-    let mut k = 0;
-    while k < n {
+    for k in 0..n {
         at = run_trials::run_case(rt, cells, at, k);
-        k += 1;
     }
 }
 
 fn prices(rt: &impl Print, cells: &mut Cells, n: u32) {
-    let mut k = 0;
-    while k < n {
+    for k in 0..n {
         price_trials::price_case(rt, cells, k);
-        k += 1;
     }
 }
 
 // The looks, by whether the block was held.
 fn print_looks(rt: &impl Print, cells: &Cells) {
-    state::print_cases(rt, cells, state::LOOK, b"look");
+    state::print_cases(rt, cells, Kind::Look, b"look");
     state::print_cell(
         rt,
         cells,
         b"look empty: ",
-        state::count_place(state::LOOK, 0),
+        state::count_place(Kind::Look, 0),
     );
-    state::print_cell(
-        rt,
-        cells,
-        b"look held: ",
-        state::count_place(state::LOOK, 1),
-    );
+    state::print_cell(rt, cells, b"look held: ", state::count_place(Kind::Look, 1));
 }
 
 fn print_sums(rt: &impl Print, cells: &Cells) {
@@ -112,10 +102,10 @@ fn print_sums(rt: &impl Print, cells: &Cells) {
 
 // The counts of each kind by number, and last the differences.
 fn print_all(rt: &impl Print, cells: &Cells) {
-    state::print_kind(rt, cells, state::START, b"start");
-    state::print_kind(rt, cells, state::RUN, b"run");
+    state::print_kind(rt, cells, Kind::Start, b"start");
+    state::print_kind(rt, cells, Kind::Run, b"run");
     print_looks(rt, cells);
-    state::print_kind(rt, cells, state::PRICE, b"price");
+    state::print_kind(rt, cells, Kind::Price, b"price");
     print_sums(rt, cells);
 }
 

@@ -1,14 +1,15 @@
 // Rival schedules: played at random from the model's own position, mostly by legal entries, and then priced.
 use crate::asked::Answer;
 use crate::board::{BLOCKS, clear, counter, first_held, in_the_way, owner, owns};
-use crate::rival::{Move, Play};
+use crate::lists::Operation;
+use crate::rival::{EntryKind, Move, Play};
 use crate::run_trials::{Judged, Plan};
-use crate::served::named_wrongly;
+use crate::served::check_named;
 use crate::{asked, lent, lists, rival, run_trials, setups};
-use protocol_types::{Account, NO_REFUSAL, Setup};
-use trials_cells::cells::{Cells, less, product, quotient, remainder, sum};
+use protocol_types::{Account, Setup};
+use trials_cells::cells::{Cells, product, quotient, remainder, sum};
 use trials_cells::state;
-use trials_cells::state::{draw, word};
+use trials_cells::state::{Difference, Kind, draw, word};
 
 // A schedule being built: what the model makes of it, and its entries.
 #[derive(Clone, Copy)]
@@ -17,29 +18,34 @@ struct Draft {
     count: u32,
 }
 
-fn move_of(kind: u32, processor: u32, block: u32) -> Move {
+fn move_of(kind: EntryKind, processor: u32, block: u32) -> Move {
     Move {
-        kind: kind,
-        processor: processor,
-        block: block,
+        kind,
+        processor,
+        block,
     }
+}
+
+fn completion(kind: EntryKind) -> Move {
+    move_of(kind, 0, 0)
 }
 
 // A legal entry by which block a leaves processor i, or comes nearer to that.
 fn step_out(cells: &Cells, i: u32, a: u32) -> Move {
-    if owns(cells, i, a) {
-        return move_of(rival::WRITE_BACK, i, a);
-    }
-    move_of(rival::DROP, i, a)
+    let kind = if owns(cells, i, a) {
+        EntryKind::WriteBack
+    } else {
+        EntryKind::Drop
+    };
+    move_of(kind, i, a)
 }
 
 // A legal entry that brings block b nearer to processor i, which does not have it.
 fn step_toward(cells: &Cells, setup: Setup, i: u32, b: u32) -> Move {
-    let a = in_the_way(cells, setup.lines, i, b);
-    if a >= BLOCKS {
-        return move_of(rival::FETCH, i, b);
+    match in_the_way(cells, setup.lines, i, b) {
+        Some(a) => step_out(cells, i, a),
+        None => move_of(EntryKind::Fetch, i, b),
     }
-    step_out(cells, i, a)
 }
 
 // How a schedule is built: once in `wild` times an entry may be anything, once in `idle` times it is one that no request
@@ -56,9 +62,9 @@ fn idle_entry(cells: &Cells, setup: Setup, i: u32, b: u32, roll: u32) -> Move {
         return step_toward(cells, setup, i, b);
     }
     if owns(cells, i, b) || roll == 0 {
-        return move_of(rival::WRITE_BACK, i, b);
+        return move_of(EntryKind::WriteBack, i, b);
     }
-    move_of(rival::DROP, i, b)
+    move_of(EntryKind::Drop, i, b)
 }
 
 fn idle_move(cells: &mut Cells, setup: Setup) -> Move {
@@ -70,34 +76,24 @@ fn idle_move(cells: &mut Cells, setup: Setup) -> Move {
 
 // The first marked block from b on, in turn; b if none is.
 fn marked_block(cells: &Cells, b: u32) -> u32 {
-    let mut t = 0;
-    while t < BLOCKS {
-        let at = remainder(sum(b, t), BLOCKS);
-        if owner(cells, at) > 0 {
-            return at;
-        }
-        t += 1;
-    }
-    b
+    (0..BLOCKS)
+        .map(|t| remainder(sum(b, t), BLOCKS))
+        .find(|at| owner(cells, *at).is_some())
+        .unwrap_or(b)
 }
 
 // The first block from b on that processor i has, in turn; b if it has none.
 fn held_block(cells: &Cells, i: u32, b: u32) -> u32 {
-    let mut t = 0;
-    while t < BLOCKS {
-        let at = remainder(sum(b, t), BLOCKS);
-        if counter(cells, i, at) > 0 {
-            return at;
-        }
-        t += 1;
-    }
-    b
+    (0..BLOCKS)
+        .map(|t| remainder(sum(b, t), BLOCKS))
+        .find(|at| counter(cells, i, *at) > 0)
+        .unwrap_or(b)
 }
 
 // The mark that is found from block b on is dropped.
 fn drop_marked(cells: &Cells, b: u32) -> Move {
     let marked = marked_block(cells, b);
-    move_of(rival::DROP, less(owner(cells, marked), 1), marked)
+    move_of(EntryKind::Drop, owner(cells, marked).unwrap_or(0), marked)
 }
 
 // An entry that may meet any condition: a block that is marked is dropped, a line that is in use is fetched into, the next
@@ -109,16 +105,16 @@ fn wild_entry(cells: &Cells, lines: u32, drawn: Move, far: u32, roll: u32) -> Mo
         0 => move_of(drawn.kind, i, far),
         1 => move_of(drawn.kind, far, b),
         2 | 3 => drop_marked(cells, b),
-        4 => move_of(rival::FETCH, i, held_block(cells, i, b)),
-        5 => move_of(rival::FETCH, i, sum(held_block(cells, i, b), lines)),
-        6 => move_of(rival::COMPLETE, i, b),
+        4 => move_of(EntryKind::Fetch, i, held_block(cells, i, b)),
+        5 => move_of(EntryKind::Fetch, i, sum(held_block(cells, i, b), lines)),
+        6 => move_of(EntryKind::Complete, i, b),
         _ => drawn,
     }
 }
 
 // The numbers are drawn from a little more than their range, or from far out of it.
 fn wild_move(cells: &mut Cells, setup: Setup) -> Move {
-    let kind = draw(cells, 6);
+    let kind = rival::kind_of(draw(cells, 6));
     let i = draw(cells, sum(setup.processors, 1));
     let b = draw(cells, sum(setup.blocks, 2));
     let far = word(cells);
@@ -128,31 +124,30 @@ fn wild_move(cells: &mut Cells, setup: Setup) -> Move {
 
 // The entry that serves a clear of processor i: its completion, or a step toward it.
 fn clearing_entry(cells: &Cells, i: u32) -> Move {
-    let a = first_held(cells, i);
-    if a >= BLOCKS {
-        return move_of(rival::COMPLETE, 0, 0);
+    match first_held(cells, i) {
+        Some(a) => step_out(cells, i, a),
+        None => completion(EntryKind::Complete),
     }
-    step_out(cells, i, a)
 }
 
 // The entry that serves request `next`: its completion, or a step toward it.
 fn serving_entry(cells: &Cells, setup: Setup, next: u32, roll: u32) -> Move {
     let request = lists::request_at(cells, next);
     let i = request.processor;
-    if named_wrongly(setup, request) != NO_REFUSAL {
-        return move_of(rival::COMPLETE, 0, 0);
+    if check_named(setup, request).is_err() {
+        return completion(EntryKind::Complete);
     }
-    if request.operation == lists::CLEAR {
+    if request.operation == Operation::Clear {
         return clearing_entry(cells, i);
     }
     let b = quotient(request.variable, setup.words);
     if counter(cells, i, b) == 0 {
         return step_toward(cells, setup, i, b);
     }
-    if request.operation == lists::WRITE && roll == 0 {
-        return move_of(rival::BROADCAST, 0, 0);
+    if request.operation == Operation::Write && roll == 0 {
+        return completion(EntryKind::Broadcast);
     }
-    move_of(rival::COMPLETE, 0, 0)
+    completion(EntryKind::Complete)
 }
 
 fn serving_move(cells: &mut Cells, setup: Setup, next: u32) -> Move {
@@ -162,10 +157,7 @@ fn serving_move(cells: &mut Cells, setup: Setup, next: u32) -> Move {
 
 // Whether once in `every` times is now; never where it is 0.
 fn falls(every: u32, roll: u32) -> bool {
-    if every == 0 {
-        return false;
-    }
-    roll == 0
+    every != 0 && roll == 0
 }
 
 // The next entry of a schedule for n requests.
@@ -209,10 +201,8 @@ fn build(cells: &mut Cells, setup: Setup, n: u32, style: Style, turns: u32) -> u
         play: rival::new_play(),
         count: 0,
     };
-    let mut t = 0;
-    while t < turns {
+    for _ in 0..turns {
         at = extend(cells, setup, n, style, at);
-        t += 1;
     }
     at.count
 }
@@ -220,7 +210,7 @@ fn build(cells: &mut Cells, setup: Setup, n: u32, style: Style, turns: u32) -> u
 #[derive(Clone, Copy)]
 struct Priced {
     play: Play,
-    what: u32,
+    what: Option<Difference>,
 }
 
 // How many numbers `count` entries have.
@@ -230,16 +220,10 @@ fn numbers_of(count: u32) -> u32 {
 
 // A legal schedule has no place, and a refused one no cost.
 fn price_answer(play: Play) -> Answer {
-    if play.refusal != NO_REFUSAL {
-        return asked::answer_of(
-            play.refusal,
-            play.place as usize,
-            0,
-            0,
-            setups::fresh_account(),
-        );
+    match play.refused {
+        Some(refused) => Answer::refused(refused, setups::fresh_account()),
+        None => Answer::priced(play.cost, setups::fresh_account()),
     }
-    asked::answer_of(0, 0, 0, play.cost, setups::fresh_account())
 }
 
 // The price of m numbers of entries in the model and by the entry.
@@ -250,25 +234,22 @@ fn price_both(cells: &mut Cells, question: Question, m: u32) -> Priced {
     let play = rival::price(cells, setup, m, n);
     let what = run_trials::compare(
         cells,
-        state::PRICE,
+        Kind::Price,
         setup,
         setups::fresh_account(),
         m,
         n,
         price_answer(play),
     );
-    Priced {
-        play: play,
-        what: what,
-    }
+    Priced { play, what }
 }
 
 // A run from fresh tables with a fresh account.
 fn run_fresh(cells: &mut Cells, setup: Setup, n: u32) -> Judged {
     lent::put_lengths(cells, setup, n);
-    asked::ask(cells, state::START, setup, setups::fresh_account(), 0, 0);
+    asked::ask(cells, Kind::Start, setup, setups::fresh_account(), 0, 0);
     let plan = Plan {
-        setup: setup,
+        setup,
         account: setups::fresh_account(),
         numbers: lists::numbers_of(n),
     };
@@ -276,29 +257,24 @@ fn run_fresh(cells: &mut Cells, setup: Setup, n: u32) -> Judged {
 }
 
 // All n requests are taken, twice the schedule's cost is at least the engine's bill, and the schedule's cost without its write-backs is at
-// least the engine's fetch cycles, and at least the engine's update plus write-back cycles: what is otherwise; 0 if nothing.
-fn bound_differs(account: Account, n: u32, play: Play) -> u32 {
+// least the engine's fetch cycles, and at least the engine's update plus write-back cycles: what is otherwise.
+fn bound_differs(account: Account, n: u32, play: Play) -> Option<Difference> {
     if account.requests != n {
-        return state::TAKEN;
+        return Some(Difference::Taken);
     }
     if run_trials::cycles(account) > product(play.cost, 2) {
-        return state::FACTOR;
+        return Some(Difference::Factor);
     }
-    if sum(account.fetch, play.write_back) > play.cost {
-        return state::SPLIT;
+    let rest = sum(account.update, account.write_back);
+    if sum(account.fetch, play.write_back) > play.cost || sum(rest, play.write_back) > play.cost {
+        return Some(Difference::Split);
     }
-    if sum(sum(account.update, account.write_back), play.write_back) > play.cost {
-        return state::SPLIT;
-    }
-    0
+    None
 }
 
 // There are cycles, and they are the schedule's cost without its write-backs.
 fn met(cycles: u32, play: Play) -> bool {
-    if cycles == 0 {
-        return false;
-    }
-    sum(cycles, play.write_back) == play.cost
+    cycles != 0 && sum(cycles, play.write_back) == play.cost
 }
 
 // The engine's bill for n requests beside the cost of a legal schedule for them. The account is the model's, which the
@@ -315,19 +291,16 @@ fn note_compared(
     run_trials::note_run(rt, cells, judged, setups::fresh_account(), case);
     state::add(cells, state::COMPARED, 1);
     let cheaper = run_trials::cycles(account) > play.cost;
-    state::add(cells, state::CHEAPER, cheaper as u32);
+    state::add(cells, state::CHEAPER, u32::from(cheaper));
     let rest = sum(account.update, account.write_back);
-    state::add(cells, state::MET, met(account.fetch, play) as u32);
-    state::add(cells, state::MET_UPDATES, met(rest, play) as u32);
+    state::add(cells, state::MET, u32::from(met(account.fetch, play)));
+    state::add(cells, state::MET_UPDATES, u32::from(met(rest, play)));
     let what = bound_differs(account, n, play);
-    state::judge(rt, cells, state::PRICE, case, what);
+    state::judge(rt, cells, Kind::Price, case, what);
 }
 
 fn style_of(wild: u32, idle: u32) -> Style {
-    Style {
-        wild: wild,
-        idle: idle,
-    }
+    Style { wild, idle }
 }
 
 fn pick_style(cells: &mut Cells) -> Style {
@@ -355,10 +328,7 @@ const TIGHT_CLEARS: u32 = 2;
 
 // Whether a list of this shape is tight. Without clears it needs two processors.
 fn is_tight(setup: Setup, shape: u32) -> bool {
-    if shape == TIGHT_CLEARS {
-        return true;
-    }
-    shape < TIGHT_CLEARS && setup.processors > 1
+    shape == TIGHT_CLEARS || shape < TIGHT_CLEARS && setup.processors > 1
 }
 
 // A list of n requests, and a schedule for it: its entries.
@@ -390,10 +360,10 @@ fn pick_question(cells: &mut Cells) -> Question {
     let numbers = lists::perhaps_partial(cells, lists::numbers_of(n), 16);
     let setup = setups::pick_lending(cells, right, n, 30, 20);
     Question {
-        right: right,
-        setup: setup,
-        n: n,
-        numbers: numbers,
+        right,
+        setup,
+        n,
+        numbers,
     }
 }
 
@@ -402,12 +372,12 @@ fn judge_schedule(rt: &impl Print, cells: &mut Cells, question: Question, m: u32
     let right = question.right;
     let priced = price_both(cells, question, m);
     let play = priced.play;
-    state::record(rt, cells, state::PRICE, case, play.refusal, priced.what);
-    if play.refusal != NO_REFUSAL {
-        return;
+    let number = asked::refusal_number(play.refused);
+    state::record(rt, cells, Kind::Price, case, number, priced.what);
+    if play.refused.is_none() {
+        let judged = run_fresh(cells, right, question.n);
+        note_compared(rt, cells, judged, question.n, play, case);
     }
-    let judged = run_fresh(cells, right, question.n);
-    note_compared(rt, cells, judged, question.n, play, case);
 }
 
 pub(crate) fn price_case(rt: &impl Print, cells: &mut Cells, case: u32) {

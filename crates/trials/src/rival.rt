@@ -1,49 +1,54 @@
 // A rival's schedule, played over facts by processor and block: a counter is 1 where the rival has a copy.
 use crate::board::{
-    BLOCKS, PROCESSORS, clear, counter, first_held, in_the_way, other_holder, owns, set_counter,
-    set_owner,
+    clear, clear_owner, counter, first_held, in_the_way, owns, set_counter, set_owner, shared,
 };
 use crate::layout::ENTRIES;
 use crate::lent;
-use crate::lists::{CLEAR, REQUEST_WIDTH, Request, WRITE, partial, request_at};
-use crate::served::named_wrongly;
-use protocol_types::{
-    BLOCK_NOT_HELD, BROADCAST_WITHOUT_WRITE, CACHE_NOT_EMPTY, COMPLETION_NOT_HELD, DROP_OF_MARKED,
-    LINE_IN_USE, NO_REFUSAL, NO_REQUEST_LEFT, NO_SUCH_BLOCK, NO_SUCH_PROCESSOR, REQUESTS_LEFT,
-    Setup, WRONG_LENGTH,
-};
+use crate::lists::{Operation, REQUEST_WIDTH, Request, partial, request_at};
+use crate::served::check_named;
+use protocol_types::{PlacedRefusal, Refusal, Setup};
 use trials_cells::cells::{Cells, get, product, put, quotient, sum};
 
 // The numbers of an entry.
 pub const ENTRY_WIDTH: u32 = 3;
 
-// The kinds of entries. Any other number completes by broadcast.
-pub const FETCH: u32 = 0;
+// The kinds of entries by number. Any number above that of a broadcast completes by broadcast too.
+#[derive(Clone, Copy, PartialEq, Eq)]
+pub enum EntryKind {
+    Fetch = 0,
+    WriteBack = 1,
+    Drop = 2,
+    Complete = 3,
+    Broadcast = 4,
+    OtherBroadcast = 5,
+}
 
-pub const WRITE_BACK: u32 = 1;
-
-pub const DROP: u32 = 2;
-
-pub const COMPLETE: u32 = 3;
-
-pub const BROADCAST: u32 = 4;
+pub(crate) fn kind_of(number: u32) -> EntryKind {
+    match number {
+        0 => EntryKind::Fetch,
+        1 => EntryKind::WriteBack,
+        2 => EntryKind::Drop,
+        3 => EntryKind::Complete,
+        4 => EntryKind::Broadcast,
+        _ => EntryKind::OtherBroadcast,
+    }
+}
 
 // An entry of a schedule. A completion has no use for the processor and the block.
 #[derive(Clone, Copy)]
 pub struct Move {
-    pub kind: u32,
+    pub kind: EntryKind,
     pub processor: u32,
     pub block: u32,
 }
 
-// A schedule so far: its cost, how much of that is for write-backs, the requests completed, the refusal number or 0, and its place.
+// A schedule so far: its cost, how much of that is for write-backs, the requests completed, and what refused it.
 #[derive(Clone, Copy)]
 pub struct Play {
     pub cost: u32,
     pub write_back: u32,
     pub done: u32,
-    pub refusal: u32,
-    pub place: u32,
+    pub refused: Option<PlacedRefusal>,
 }
 
 pub(crate) fn new_play() -> Play {
@@ -51,135 +56,157 @@ pub(crate) fn new_play() -> Play {
         cost: 0,
         write_back: 0,
         done: 0,
-        refusal: NO_REFUSAL,
-        place: 0,
+        refused: None,
     }
 }
 
-fn refused(play: Play, refusal: u32, place: u32) -> Play {
+fn refused(play: Play, refusal: Refusal, place: u32) -> Play {
+    let place = place as usize;
     Play {
-        cost: play.cost,
-        write_back: play.write_back,
-        done: play.done,
-        refusal: refusal,
-        place: place,
+        refused: Some(PlacedRefusal { refusal, place }),
+        ..play
     }
 }
 
 // The schedule with one more entry, of this kind and at this cost.
-fn paid(play: Play, kind: u32, cost: u32) -> Play {
-    Play {
+fn paid(play: Play, kind: EntryKind, cost: u32) -> Play {
+    let with_cost = Play {
         cost: sum(play.cost, cost),
-        write_back: sum(play.write_back, product((kind == WRITE_BACK) as u32, cost)),
-        done: sum(play.done, (kind >= COMPLETE) as u32),
-        refusal: NO_REFUSAL,
-        place: 0,
+        ..play
+    };
+    match kind {
+        EntryKind::Fetch | EntryKind::Drop => with_cost,
+        EntryKind::WriteBack => Play {
+            write_back: sum(play.write_back, cost),
+            ..with_cost
+        },
+        EntryKind::Complete | EntryKind::Broadcast | EntryKind::OtherBroadcast => Play {
+            done: sum(play.done, 1),
+            ..with_cost
+        },
     }
 }
 
-// The refusal of a fetch, a write-back or a drop.
-fn move_refusal(cells: &Cells, setup: Setup, entry: Move) -> u32 {
+// Whether a fetch, a write-back or a drop is refused.
+fn check_move(cells: &Cells, setup: Setup, entry: Move) -> Result<(), Refusal> {
     let i = entry.processor;
     let b = entry.block;
     if i >= setup.processors {
-        return NO_SUCH_PROCESSOR;
+        return Err(Refusal::NoSuchProcessor);
     }
     if b >= setup.blocks {
-        return NO_SUCH_BLOCK;
+        return Err(Refusal::NoSuchBlock);
     }
-    if entry.kind == FETCH {
-        if in_the_way(cells, setup.lines, i, b) < BLOCKS {
-            return LINE_IN_USE;
-        }
-        return NO_REFUSAL;
+    if entry.kind == EntryKind::Fetch {
+        return check_fetch(cells, setup, i, b);
     }
     if counter(cells, i, b) == 0 {
-        return BLOCK_NOT_HELD;
+        return Err(Refusal::BlockNotHeld);
     }
-    if entry.kind == DROP {
-        if owns(cells, i, b) {
-            return DROP_OF_MARKED;
-        }
+    if entry.kind == EntryKind::Drop && owns(cells, i, b) {
+        return Err(Refusal::DropOfMarked);
     }
-    NO_REFUSAL
+    Ok(())
 }
 
-// A fetch, a write-back or a drop, which nothing refuses: its cost.
-fn moved(cells: &mut Cells, setup: Setup, entry: Move) -> u32 {
-    let i = entry.processor;
-    let b = entry.block;
-    if entry.kind == DROP {
-        set_counter(cells, i, b, 0);
-        return 0;
+fn check_fetch(cells: &Cells, setup: Setup, i: u32, b: u32) -> Result<(), Refusal> {
+    if in_the_way(cells, setup.lines, i, b).is_some() {
+        return Err(Refusal::LineInUse);
     }
-    set_owner(cells, b, 0);
+    Ok(())
+}
+
+// Processor i has a copy of block b that is not marked.
+fn set_unmarked(cells: &mut Cells, i: u32, b: u32) {
+    clear_owner(cells, b);
     set_counter(cells, i, b, 1);
-    if entry.kind == WRITE_BACK {
-        return setup.write_back_price;
-    }
-    setup.fetch_price
 }
 
 // The cost of a write by processor i, which has block b: alone it marks the block.
 fn written(cells: &mut Cells, i: u32, b: u32, broadcast: bool) -> u32 {
-    if broadcast {
+    if broadcast || shared(cells, i, b) {
         return 1;
     }
-    if other_holder(cells, i, b) < PROCESSORS {
-        return 1;
-    }
-    set_owner(cells, b, sum(i, 1));
+    set_owner(cells, b, i);
     0
 }
 
-// The refusal of a completion by what the processor has: a clear needs an empty cache, another request its block.
-fn held_refusal(cells: &Cells, p: u32, request: Request) -> u32 {
+// Whether a completion is refused by what the processor has: a clear needs an empty cache, another request its block.
+fn check_held(cells: &Cells, p: u32, request: Request) -> Result<(), Refusal> {
     let i = request.processor;
-    if request.operation == CLEAR {
-        if first_held(cells, i) < BLOCKS {
-            return CACHE_NOT_EMPTY;
+    if request.operation == Operation::Clear {
+        if first_held(cells, i).is_some() {
+            return Err(Refusal::CacheNotEmpty);
         }
-        return NO_REFUSAL;
+        return Ok(());
     }
     if counter(cells, i, quotient(request.variable, p)) == 0 {
-        return COMPLETION_NOT_HELD;
+        return Err(Refusal::CompletionNotHeld);
     }
-    NO_REFUSAL
+    Ok(())
 }
 
-// The refusal of the completion of request t of n.
-fn completion_refusal(cells: &Cells, setup: Setup, n: u32, t: u32, broadcast: bool) -> u32 {
+// Whether the completion of request t of n is refused.
+fn check_completion(
+    cells: &Cells,
+    setup: Setup,
+    n: u32,
+    t: u32,
+    broadcast: bool,
+) -> Result<(), Refusal> {
     if t >= n {
-        return NO_REQUEST_LEFT;
+        return Err(Refusal::NoRequestLeft);
     }
     let request = request_at(cells, t);
-    let named = named_wrongly(setup, request);
-    if named != NO_REFUSAL {
-        return named;
+    check_named(setup, request)?;
+    if broadcast && request.operation != Operation::Write {
+        return Err(Refusal::BroadcastWithoutWrite);
     }
-    if broadcast {
-        if request.operation != WRITE {
-            return BROADCAST_WITHOUT_WRITE;
-        }
-    }
-    held_refusal(cells, setup.words, request)
+    check_held(cells, setup.words, request)
 }
 
-fn entry_refusal(cells: &Cells, setup: Setup, n: u32, t: u32, entry: Move) -> u32 {
-    if entry.kind < COMPLETE {
-        return move_refusal(cells, setup, entry);
+fn check(cells: &Cells, setup: Setup, n: u32, t: u32, entry: Move) -> Result<(), Refusal> {
+    match entry.kind {
+        EntryKind::Fetch | EntryKind::WriteBack | EntryKind::Drop => {
+            check_move(cells, setup, entry)
+        }
+        EntryKind::Complete => check_completion(cells, setup, n, t, false),
+        EntryKind::Broadcast | EntryKind::OtherBroadcast => {
+            check_completion(cells, setup, n, t, true)
+        }
     }
-    completion_refusal(cells, setup, n, t, entry.kind != COMPLETE)
 }
 
 // The completion of request t, which nothing refuses: its cost.
 fn complete(cells: &mut Cells, p: u32, t: u32, broadcast: bool) -> u32 {
     let request = request_at(cells, t);
-    if request.operation != WRITE {
+    if request.operation != Operation::Write {
         return 0;
     }
     let b = quotient(request.variable, p);
     written(cells, request.processor, b, broadcast)
+}
+
+// An entry that nothing refuses, where t requests are completed: its cost.
+fn enter(cells: &mut Cells, setup: Setup, t: u32, entry: Move) -> u32 {
+    let i = entry.processor;
+    let b = entry.block;
+    match entry.kind {
+        EntryKind::Fetch => {
+            set_unmarked(cells, i, b);
+            setup.fetch_price
+        }
+        EntryKind::WriteBack => {
+            set_unmarked(cells, i, b);
+            setup.write_back_price
+        }
+        EntryKind::Drop => {
+            set_counter(cells, i, b, 0);
+            0
+        }
+        EntryKind::Complete => complete(cells, setup.words, t, false),
+        EntryKind::Broadcast | EntryKind::OtherBroadcast => complete(cells, setup.words, t, true),
+    }
 }
 
 // Plays one entry, for n requests; after a refusal nothing changes.
@@ -191,18 +218,13 @@ pub(crate) fn play_entry(
     place: u32,
     play: Play,
 ) -> Play {
-    if play.refusal != NO_REFUSAL {
+    if play.refused.is_some() {
         return play;
     }
-    let refusal = entry_refusal(cells, setup, n, play.done, entry);
-    if refusal != NO_REFUSAL {
+    if let Err(refusal) = check(cells, setup, n, play.done, entry) {
         return refused(play, refusal, place);
     }
-    if entry.kind < COMPLETE {
-        let cost = moved(cells, setup, entry);
-        return paid(play, entry.kind, cost);
-    }
-    let cost = complete(cells, setup.words, play.done, entry.kind != COMPLETE);
+    let cost = enter(cells, setup, play.done, entry);
     paid(play, entry.kind, cost)
 }
 
@@ -214,7 +236,7 @@ fn entry_place(t: u32) -> u32 {
 fn entry_at(cells: &Cells, t: u32) -> Move {
     let first = entry_place(t);
     Move {
-        kind: get(cells, first, 0),
+        kind: kind_of(get(cells, first, 0)),
         processor: get(cells, first, 1),
         block: get(cells, first, 2),
     }
@@ -222,7 +244,7 @@ fn entry_at(cells: &Cells, t: u32) -> Move {
 
 pub(crate) fn put_entry(cells: &mut Cells, t: u32, entry: Move) {
     let first = entry_place(t);
-    put(cells, first, 0, entry.kind);
+    put(cells, first, 0, entry.kind as u32);
     put(cells, first, 1, entry.processor);
     put(cells, first, 2, entry.block);
 }
@@ -235,38 +257,30 @@ fn play_next(cells: &mut Cells, setup: Setup, n: u32, t: u32, play: Play) -> Pla
 
 fn play_all(cells: &mut Cells, setup: Setup, count: u32, n: u32) -> Play {
     let mut play = new_play();
-    let mut t = 0;
-    while t < count {
+    for t in 0..count {
         play = play_next(cells, setup, n, t, play);
-        t += 1;
     }
     play
 }
 
-// Requests are left at the end.
+// Requests may be left at the end.
 fn ended(play: Play, count: u32, n: u32) -> Play {
-    if play.refusal != NO_REFUSAL {
-        return play;
-    }
-    if play.done < n {
-        return refused(play, REQUESTS_LEFT, count);
+    if play.refused.is_none() && play.done < n {
+        return refused(play, Refusal::RequestsLeft, count);
     }
     play
 }
 
-// The refusal of the setup, of m numbers of entries and n of requests, and of the pricer's tables.
-fn price_refusal(cells: &Cells, setup: Setup, m: u32, n: u32) -> u32 {
-    let refusal = lent::setup_refusal(setup);
-    if refusal != NO_REFUSAL {
-        return refusal;
+// Whether the setup, m numbers of entries and n of requests, or the pricer's tables are refused.
+fn check_price(cells: &Cells, setup: Setup, m: u32, n: u32) -> Result<(), Refusal> {
+    lent::check_setup(setup)?;
+    if partial(m, ENTRY_WIDTH)
+        || partial(n, REQUEST_WIDTH)
+        || lent::lengths_wrong(cells, setup, 0, lent::PRICED)
+    {
+        return Err(Refusal::WrongLength);
     }
-    if partial(m, ENTRY_WIDTH) || partial(n, REQUEST_WIDTH) {
-        return WRONG_LENGTH;
-    }
-    if lent::lengths_wrong(cells, setup, 0, lent::PRICED) {
-        return WRONG_LENGTH;
-    }
-    NO_REFUSAL
+    Ok(())
 }
 
 // A schedule of `count` entries for n requests, played from empty caches to its end.
@@ -278,8 +292,7 @@ fn played(cells: &mut Cells, setup: Setup, count: u32, n: u32) -> Play {
 // The price of a schedule of m numbers for requests of n numbers, both too few to be refused by 5. The lent tables become what they should
 // be after it: the rival's position, or 0 after a refusal.
 pub(crate) fn price(cells: &mut Cells, setup: Setup, m: u32, n: u32) -> Play {
-    let refusal = price_refusal(cells, setup, m, n);
-    if refusal != NO_REFUSAL {
+    if let Err(refusal) = check_price(cells, setup, m, n) {
         return refused(new_play(), refusal, 0);
     }
     lent::wipe_tables(cells, lent::PRICED);
@@ -289,9 +302,8 @@ pub(crate) fn price(cells: &mut Cells, setup: Setup, m: u32, n: u32) -> Play {
         quotient(m, ENTRY_WIDTH),
         quotient(n, REQUEST_WIDTH),
     );
-    if play.refusal != NO_REFUSAL {
-        return play;
+    if play.refused.is_none() {
+        lent::lay_lines(cells, setup);
     }
-    lent::lay_lines(cells, setup);
     play
 }

@@ -3,10 +3,10 @@ use crate::asked::{Answer, Shown};
 use crate::layout::{REAL, WANTED};
 use crate::served::Outcome;
 use crate::{asked, damage, lent, lists, served, setups};
-use protocol_types::{Account, IMPOSSIBLE_ACCOUNT, NO_REFUSAL, Setup, UNSOUND_TABLES};
+use protocol_types::{Account, PlacedRefusal, Refusal, Setup};
 use trials_cells::cells::{Cells, copy, differences, less, put, quotient, remainder, sum};
 use trials_cells::state;
-use trials_cells::state::{draw, word};
+use trials_cells::state::{Difference, Kind, draw, word};
 
 const REAL_MEMORY: u32 = REAL + lent::MEMORY;
 
@@ -19,10 +19,8 @@ const BYTES: u32 = 256;
 
 // The n cells from `first` on get a number below `below` each, counted from `from`.
 fn scatter(cells: &mut Cells, first: u32, n: u32, from: u32, below: u32) {
-    let mut k = 0;
-    while k < n {
+    for k in 0..n {
         put(cells, first, k, remainder(sum(from, k), below));
-        k += 1;
     }
 }
 
@@ -31,63 +29,44 @@ pub(crate) fn copy_tables(cells: &mut Cells) {
     copy(cells, REAL, WANTED, lent::CELLS);
 }
 
-// What a trial differed in: the answer, or else the tables; 0 if in nothing.
-fn with_tables(cells: &Cells, what: u32) -> u32 {
-    if what != 0 {
-        return what;
+// What a trial differed in: the answer, or else the tables.
+fn with_tables(cells: &Cells, what: Option<Difference>) -> Option<Difference> {
+    if what.is_none() && differences(cells, REAL, WANTED, lent::CELLS) > 0 {
+        return Some(Difference::Buffers);
     }
-    if differences(cells, REAL, WANTED, lent::CELLS) > 0 {
-        return state::BUFFERS;
-    }
-    0
+    what
 }
 
-// Whether two accounts are not the same.
-fn accounts_differ(a: Account, b: Account) -> bool {
-    if a.requests != b.requests {
-        return true;
+// What an answer differs in from the model's.
+fn answers_differ(expected: Answer, answer: Answer) -> Option<Difference> {
+    if asked::refusal_number(answer.refused) != asked::refusal_number(expected.refused) {
+        return Some(Difference::Refusal);
     }
-    if a.fetch != b.fetch {
-        return true;
-    }
-    if a.write_back != b.write_back {
-        return true;
-    }
-    a.update != b.update
-}
-
-// What an answer differs in from the model's; 0 if in nothing.
-fn answers_differ(expected: Answer, answer: Answer) -> u32 {
-    if answer.refusal != expected.refusal {
-        return state::REFUSAL;
-    }
-    if answer.place != expected.place {
-        return state::PLACE;
+    if answer.refused != expected.refused {
+        return Some(Difference::Place);
     }
     if answer.taken != expected.taken {
-        return state::TAKEN;
+        return Some(Difference::Taken);
     }
     if answer.cost != expected.cost {
-        return state::COST;
+        return Some(Difference::Cost);
     }
-    let a = answer.account;
-    let b = expected.account;
-    if accounts_differ(a, b) {
-        return state::ACCOUNT;
+    if answer.account != expected.account {
+        return Some(Difference::Account);
     }
-    0
+    None
 }
 
 // Calls an entry, after the model: what differs.
 pub(crate) fn compare(
     cells: &mut Cells,
-    kind: u32,
+    kind: Kind,
     setup: Setup,
     account: Account,
     m: u32,
     n: u32,
     expected: Answer,
-) -> u32 {
+) -> Option<Difference> {
     let answer = asked::ask(cells, kind, setup, account, m, n);
     with_tables(cells, answers_differ(expected, answer))
 }
@@ -96,10 +75,10 @@ pub(crate) fn compare(
 fn start_both(rt: &impl Print, cells: &mut Cells, setup: Setup, case: u32) {
     let fresh = setups::fresh_account();
     copy_tables(cells);
-    let refusal = lent::start(cells, setup);
-    let expected = asked::answer_of(refusal, 0, 0, 0, fresh);
-    let what = compare(cells, state::START, setup, fresh, 0, 0, expected);
-    state::record(rt, cells, state::START, case, refusal, what);
+    let expected = Answer::started(lent::start(cells, setup), fresh);
+    let what = compare(cells, Kind::Start, setup, fresh, 0, 0, expected);
+    let number = asked::refusal_number(expected.refused);
+    state::record(rt, cells, Kind::Start, case, number, what);
 }
 
 // Each number at 0, 1, its largest and one more.
@@ -125,11 +104,12 @@ fn start_setup(cells: &mut Cells, setup: Setup, case: u32) -> Setup {
 
 // The lengths for a setup; those of another one where it is out of range.
 fn put_start_lengths(cells: &mut Cells, setup: Setup, other: Setup) {
-    if lent::setup_refusal(setup) != NO_REFUSAL {
-        lent::put_lengths(cells, other, 0);
-        return;
-    }
-    lent::put_lengths(cells, setup, 0);
+    let right = if lent::check_setup(setup).is_ok() {
+        setup
+    } else {
+        other
+    };
+    lent::put_lengths(cells, right, 0);
 }
 
 // A setup and lengths for starting.
@@ -170,31 +150,20 @@ pub struct Plan {
     pub numbers: u32,
 }
 
-// What a run came to in the model: the account and the refusal; and what differed from it.
+// What a run came to in the model: the account and what refused it; and what differed from it.
 #[derive(Clone, Copy)]
 pub struct Judged {
     pub account: Account,
-    pub refusal: u32,
-    pub what: u32,
+    pub refused: Option<PlacedRefusal>,
+    pub what: Option<Difference>,
 }
 
 fn run_answer(outcome: Outcome) -> Answer {
-    let account = outcome.account;
-    asked::answer_of(
-        outcome.refusal,
-        outcome.place as usize,
-        outcome.taken as usize,
-        0,
-        account,
-    )
-}
-
-fn judged_of(outcome: Outcome, what: u32) -> Judged {
-    let account = outcome.account;
-    Judged {
-        account: account,
-        refusal: outcome.refusal,
-        what: what,
+    Answer {
+        refused: outcome.refused,
+        taken: outcome.taken as usize,
+        cost: 0,
+        account: outcome.account,
     }
 }
 
@@ -205,8 +174,12 @@ pub(crate) fn run_both(cells: &mut Cells, plan: Plan) -> Judged {
     copy_tables(cells);
     let n = plan.numbers;
     let outcome = served::run(cells, setup, account, n);
-    let what = compare(cells, state::RUN, setup, account, 0, n, run_answer(outcome));
-    judged_of(outcome, what)
+    let what = compare(cells, Kind::Run, setup, account, 0, n, run_answer(outcome));
+    Judged {
+        account: outcome.account,
+        refused: outcome.refused,
+        what,
+    }
 }
 
 pub(crate) fn cycles(account: Account) -> u32 {
@@ -229,31 +202,23 @@ fn look_both(rt: &impl Print, cells: &mut Cells, sight: Sight, case: u32) {
     let seen = asked::look(cells, setup, i, b);
     let shows = lent::shows(cells, setup, i, b);
     let what = look_differs(seen, shows, setup.words);
-    state::record(rt, cells, state::LOOK, case, shows as u32, what);
+    state::record(rt, cells, Kind::Look, case, u32::from(shows), what);
 }
 
 // A look shows p words, those of the block, or none.
-fn look_differs(seen: Shown, shows: bool, p: u32) -> u32 {
-    if !shows {
-        if seen.count != 0 {
-            return state::SHOWN;
-        }
-        return 0;
+fn look_differs(seen: Shown, shows: bool, p: u32) -> Option<Difference> {
+    let count = if shows { p as usize } else { 0 };
+    if seen.count != count || shows && seen.unlike != 0 {
+        return Some(Difference::Shown);
     }
-    if seen.count != p as usize {
-        return state::SHOWN;
-    }
-    if seen.unlike != 0 {
-        return state::SHOWN;
-    }
-    0
+    None
 }
 
 // A look: at the block in the first filled slot from k on, or at any.
 fn sight_at(cells: &Cells, setup: Setup, right: Setup, k: u32) -> Sight {
     let held = damage::held_slot(cells, lent::slots(right), k);
     Sight {
-        setup: setup,
+        setup,
         processor: quotient(held, right.lines),
         block: damage::block_at(cells, held),
     }
@@ -269,7 +234,7 @@ fn pick_look(cells: &mut Cells, right: Setup) -> Sight {
         return sight_at(cells, setup, right, k);
     }
     Sight {
-        setup: setup,
+        setup,
         processor: i,
         block: any,
     }
@@ -286,8 +251,8 @@ fn pick_series(cells: &mut Cells) -> Series {
     let account = setups::pick_account(cells, setup);
     let left = draw(cells, 8);
     Series {
-        setup: setup,
-        account: account,
+        setup,
+        account,
         left: sum(left, 1),
     }
 }
@@ -324,9 +289,9 @@ fn pick_plan(cells: &mut Cells, at: Series) -> Plan {
     lists::pick_requests(cells, right, n, 100);
     let setup = setups::pick_lending(cells, right, n, 24, 12);
     Plan {
-        setup: setup,
-        account: account,
-        numbers: numbers,
+        setup,
+        account,
+        numbers,
     }
 }
 
@@ -339,7 +304,8 @@ pub(crate) fn note_run(
     case: u32,
 ) {
     let after = judged.account;
-    state::record(rt, cells, state::RUN, case, judged.refusal, judged.what);
+    let number = asked::refusal_number(judged.refused);
+    state::record(rt, cells, Kind::Run, case, number, judged.what);
     state::add(
         cells,
         state::REQUESTS,
@@ -375,21 +341,18 @@ pub(crate) fn run_case(rt: &impl Print, cells: &mut Cells, last: Series, case: u
 
 // A list whose tables or account were refused ends there.
 fn series_after(at: Series, judged: Judged) -> Series {
-    let setup = at.setup;
-    let account = judged.account;
     Series {
-        setup: setup,
-        account: account,
-        left: left_after(judged.refusal, at.left),
+        account: judged.account,
+        left: left_after(judged.refused, at.left),
+        ..at
     }
 }
 
-fn left_after(refusal: u32, left: u32) -> u32 {
-    if refusal == UNSOUND_TABLES {
-        return 0;
+fn left_after(refused: Option<PlacedRefusal>, left: u32) -> u32 {
+    match refused {
+        Some(refused)
+            if refused.refusal == Refusal::UnsoundTables
+                || refused.refusal == Refusal::ImpossibleAccount => { 0 }
+        _ => less(left, 1),
     }
-    if refusal == IMPOSSIBLE_ACCOUNT {
-        return 0;
-    }
-    less(left, 1)
 }

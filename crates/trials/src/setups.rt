@@ -14,10 +14,10 @@ pub const NUMBERS: u32 = 6;
 // A board of these sizes, its prices the highest.
 fn board_of(processors: u32, lines: u32, words: u32, blocks: u32) -> Setup {
     Setup {
-        processors: processors,
-        lines: lines,
-        words: words,
-        blocks: blocks,
+        processors,
+        lines,
+        words,
+        blocks,
         fetch_price: MOST_FETCH_PRICE,
         write_back_price: MOST_FETCH_PRICE,
     }
@@ -82,19 +82,18 @@ fn pick_fetch_price(cells: &mut Cells, p: u32) -> u32 {
 fn pick_write_back_price(cells: &mut Cells, fetch_price: u32) -> u32 {
     let shape = draw(cells, 4);
     let any = between(cells, 1, fetch_price);
-    if shape == 0 {
-        return fetch_price;
-    }
-    any
+    if shape == 0 { fetch_price } else { any }
 }
 
 // A right setup.
 pub(crate) fn pick_setup(cells: &mut Cells) -> Setup {
-    let mut setup = pick_board(cells);
-    let fetch_price = pick_fetch_price(cells, setup.words);
-    setup.fetch_price = fetch_price;
-    setup.write_back_price = pick_write_back_price(cells, fetch_price);
-    setup
+    let board = pick_board(cells);
+    let fetch_price = pick_fetch_price(cells, board.words);
+    Setup {
+        fetch_price,
+        write_back_price: pick_write_back_price(cells, fetch_price),
+        ..board
+    }
 }
 
 // A case begins, with a right setup.
@@ -156,18 +155,12 @@ pub(crate) fn perhaps_wrong_setup(cells: &mut Cells, setup: Setup, n: u32) -> Se
     if roll != 0 {
         return setup;
     }
-    if second == 0 {
-        return twice;
-    }
-    once
+    if second == 0 { twice } else { once }
 }
 
 // One more or one less.
 fn off_by_one(x: u32, up: bool) -> u32 {
-    if up || x == 0 {
-        return sum(x, 1);
-    }
-    less(x, 1)
+    if up || x == 0 { sum(x, 1) } else { less(x, 1) }
 }
 
 // Once in n times one of the lengths becomes wrong by one.
@@ -175,11 +168,10 @@ pub(crate) fn perhaps_wrong_lengths(cells: &mut Cells, n: u32) {
     let roll = draw(cells, n);
     let which = draw(cells, lent::ALL);
     let up = draw(cells, 2) == 0;
-    if roll != 0 {
-        return;
+    if roll == 0 {
+        let right = lent::length(cells, which);
+        put(cells, LENGTHS, which, off_by_one(right, up));
     }
-    let right = lent::length(cells, which);
-    put(cells, LENGTHS, which, off_by_one(right, up));
 }
 
 // The setup that an entry is given, and the lengths for it and for a list of n requests: the setup is wrong once in
@@ -210,10 +202,10 @@ fn full_write_back(setup: Setup, requests: u32) -> u32 {
 
 fn account_of(requests: u32, fetch: u32, write_back: u32, update: u32) -> Account {
     Account {
-        requests: requests,
-        fetch: fetch,
-        write_back: write_back,
-        update: update,
+        requests,
+        fetch,
+        write_back,
+        update,
     }
 }
 

@@ -16,18 +16,15 @@ const SEEN: u32 = 12;
 // No length and no place that is wanted is as high.
 const TOO_MANY: u32 = 65535;
 
-fn narrow(x: usize) -> u32 {
-    if x < 65535 {
-        return x as u32;
-    }
-    TOO_MANY
+pub(crate) fn narrow(x: usize) -> u32 {
+    if x < 65535 { x as u32 } else { TOO_MANY }
 }
 
 fn put_found(cells: &mut Cells, best: BestSchedule) {
     set_value(cells, ENTRIES, narrow(best.length));
     set_value(cells, COST, best.cost);
     set_value(cells, STEPS, best.steps);
-    set_value(cells, LEAST, best.least as u32);
+    set_value(cells, LEAST, u32::from(best.least));
     set_value(cells, EXCESS, best.excess);
 }
 
@@ -66,10 +63,10 @@ fn look_behind(cells: &mut Cells, schedule: &Table) {
 // The schedule is played; it has to complete all requests.
 fn play(cells: &mut Cells, schedule: &Table) {
     let n = quotient(value(cells, NUMBERS), REQUEST_WIDTH);
-    let end = played::play_all(cells, n, schedule, value(cells, ENTRIES));
-    let whole = end.done == n;
-    set_value(cells, LEGAL, end.legal as u32 & whole as u32);
-    set_value(cells, PLAYED_COST, end.cost);
+    if let Some(end) = played::play_all(cells, n, schedule, value(cells, ENTRIES)) {
+        set_value(cells, LEGAL, u32::from(end.done == n));
+        set_value(cells, PLAYED_COST, end.cost);
+    }
 }
 
 // The search in at most so many steps.

@@ -2,7 +2,7 @@
 // of the next request.
 use crate::layout::{COSTS, LEAST_COST, NEXT_COSTS, POSITIONS, set_value};
 use crate::requests::Asked;
-use crate::rules::Step;
+use crate::rules::{EntryKind, Step};
 use crate::{requests, rules};
 use trials_cells::cells::{Cells, copy, get, put, sum};
 
@@ -14,18 +14,16 @@ const SWEEPS: u32 = 40;
 
 // No position of a table is reached.
 fn wipe_costs(cells: &mut Cells, table: u32) {
-    let mut u = 0;
-    while u < POSITIONS {
+    for u in 0..POSITIONS {
         put(cells, table, u, NOT_REACHED);
-        u += 1;
     }
 }
 
 // Where a step from a position of this cost leads, the cost in the table becomes no higher: 1 if it was.
-fn lower(cells: &mut Cells, table: u32, cost: u32, step: Step) -> u32 {
-    if !step.legal {
+fn lower(cells: &mut Cells, table: u32, cost: u32, step: Option<Step>) -> u32 {
+    let Some(step) = step else {
         return 0;
-    }
+    };
     let total = sum(cost, step.cost);
     if total >= get(cells, table, step.next) {
         return 0;
@@ -34,46 +32,50 @@ fn lower(cells: &mut Cells, table: u32, cost: u32, step: Step) -> u32 {
     1
 }
 
-// Entry k of a fetch, a write-back and a drop for each processor and block, from position u.
-fn lower_entry(cells: &mut Cells, u: u32, k: u32) -> u32 {
+// An entry of this kind for processor i and block b, from position u.
+fn lower_entry(cells: &mut Cells, u: u32, kind: EntryKind, i: u32, b: u32) -> u32 {
     let cost = get(cells, COSTS, u);
-    let step = rules::change(cells, u, k / rules::PAIRS, k / 4 % 2, k % 4);
+    let step = rules::change(cells, u, kind, i, b);
     lower(cells, COSTS, cost, step)
 }
 
-// All these entries: how many costs they lower.
+// One for each processor and block.
+fn lower_by(cells: &mut Cells, u: u32, kind: EntryKind) -> u32 {
+    let mut lowered = 0;
+    for i in 0..2 {
+        for b in 0..4 {
+            lowered = sum(lowered, lower_entry(cells, u, kind, i, b));
+        }
+    }
+    lowered
+}
+
+// Fetches, write-backs and drops from position u: how many costs they lower.
 fn lower_from(cells: &mut Cells, u: u32) -> u32 {
     if get(cells, COSTS, u) == NOT_REACHED {
         return 0;
     }
-    let mut lowered = 0;
-    let mut k = 0;
-    while k < rules::PAIRS * 3 {
-        lowered = sum(lowered, lower_entry(cells, u, k));
-        k += 1;
-    }
-    lowered
+    let fetches = lower_by(cells, u, EntryKind::Fetch);
+    let write_backs = lower_by(cells, u, EntryKind::WriteBack);
+    let drops = lower_by(cells, u, EntryKind::Drop);
+    sum(sum(fetches, write_backs), drops)
 }
 
 // The same from every position.
 fn sweep(cells: &mut Cells) -> u32 {
     let mut lowered = 0;
-    let mut u = 0;
-    while u < POSITIONS {
+    for u in 0..POSITIONS {
         lowered = sum(lowered, lower_from(cells, u));
-        u += 1;
     }
     lowered
 }
 
 // Sweeps until nothing changes.
 fn settle(cells: &mut Cells) {
-    let mut k = 0;
-    while k < SWEEPS {
+    for _ in 0..SWEEPS {
         if sweep(cells) == 0 {
             return;
         }
-        k += 1;
     }
 }
 
@@ -89,10 +91,8 @@ fn complete_from(cells: &mut Cells, asked: Asked, u: u32) {
 
 // The next request is completed.
 fn complete_all(cells: &mut Cells, asked: Asked) {
-    let mut u = 0;
-    while u < POSITIONS {
+    for u in 0..POSITIONS {
         complete_from(cells, asked, u);
-        u += 1;
     }
 }
 
@@ -105,13 +105,8 @@ fn serve(cells: &mut Cells, t: u32) {
 
 fn lowest(cells: &Cells) -> u32 {
     let mut least = NOT_REACHED;
-    let mut u = 0;
-    while u < POSITIONS {
-        let cost = get(cells, COSTS, u);
-        if cost < least {
-            least = cost;
-        }
-        u += 1;
+    for u in 0..POSITIONS {
+        least = least.min(get(cells, COSTS, u));
     }
     least
 }
@@ -120,10 +115,8 @@ fn lowest(cells: &Cells) -> u32 {
 pub(crate) fn find(cells: &mut Cells, n: u32) {
     wipe_costs(cells, COSTS);
     put(cells, COSTS, 0, 0);
-    let mut t = 0;
-    while t < n {
+    for t in 0..n {
         serve(cells, t);
-        t += 1;
     }
     set_value(cells, LEAST_COST, lowest(cells));
 }

@@ -14,43 +14,30 @@ pub type Table = [u32; ROOM];
 fn within_room(n: u32) -> usize
     ensures { result ≤ 97210 }
 {
-    let k = n as usize;
-    if k <= ROOM {
-        return k;
-    }
-    ROOM
+    ROOM.min(n as usize)
 }
 
 fn set(table: &mut [u32], k: u32, x: u32) {
-    let i = k as usize;
-    if i < table.len() {
-        table[i] = x;
+    if let Some(cell) = table.get_mut(k as usize) {
+        *cell = x;
     }
 }
 
 pub(crate) fn element(table: &Table, k: u32) -> u32 {
-    let i = k as usize;
-    if i < ROOM {
-        return table[i];
-    }
-    0
+    table.get(k as usize).copied().unwrap_or(0)
 }
 
 // The first n numbers become a pattern.
 fn fill(to: &mut [u32], n: u32, pattern: u32) {
-    let mut k = 0;
-    while k < n {
+    for k in 0..n {
         set(to, k, sum(pattern, k));
-        k += 1;
     }
 }
 
 // The first n numbers become those of the requests.
 fn fill_requests(cells: &Cells, to: &mut [u32], n: u32) {
-    let mut k = 0;
-    while k < n {
+    for k in 0..n {
         set(to, k, get(cells, REQUESTS, k));
-        k += 1;
     }
 }
 
@@ -75,12 +62,10 @@ pub(crate) fn lend_requests(cells: &Cells, to: &mut Table) -> usize
 // How many of the numbers from `first` to the n-th do not have the pattern.
 pub(crate) fn changed(table: &Table, first: u32, n: u32, pattern: u32) -> u32 {
     let mut count = 0;
-    let mut k = first;
-    while k < n {
+    for k in first..n {
         if element(table, k) != sum(pattern, k) {
             count = sum(count, 1);
         }
-        k += 1;
     }
     count
 }
@@ -88,12 +73,10 @@ pub(crate) fn changed(table: &Table, first: u32, n: u32, pattern: u32) -> u32 {
 // How many of the first n numbers are not those of the cells from `first` on.
 pub(crate) fn unlike(table: &Table, cells: &Cells, first: u32, n: u32) -> u32 {
     let mut count = 0;
-    let mut k = 0;
-    while k < n {
+    for k in 0..n {
         if element(table, k) != get(cells, first, k) {
             count = sum(count, 1);
         }
-        k += 1;
     }
     count
 }

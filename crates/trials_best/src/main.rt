@@ -17,16 +17,12 @@ use crate::layout::{
     NUMBERS, OWN_COUNT, OWN_CYCLES, PLACE, PLAYED_COST, REFUSAL, REQUEST_WIDTH, STEPS, set_value,
     value,
 };
-use crate::questions::Refusal;
-use protocol_types::NO_REFUSAL;
+use protocol_types::PlacedRefusal;
 use trials_cells::cells::{Cells, less, product, quotient, sum};
 use trials_cells::state;
-use trials_cells::state::{between, draw};
+use trials_cells::state::{Difference, Kind, between, draw};
 
 const FIRST_SEED: u32 = 20261118;
-
-// The kind of the trials.
-const LIST: u32 = 0;
 
 const QUESTIONS: u32 = 2000;
 
@@ -53,78 +49,74 @@ const ALL_STEPS: u32 = 8;
 
 const BETTERED: u32 = 9;
 
-// What a search may differ in, besides the numbers of the state.
-const NOT_LEGAL: u32 = 16;
-
-const STEPS_USED: u32 = 17;
-
-const NOT_LEAST: u32 = 18;
-
-const WRONG_EXCESS: u32 = 19;
-
-const OWN_ACTIONS: u32 = 20;
-
 // ---- what has to hold of what is seen
 
 // A difference where it does not hold.
-fn expect(rt: &impl Print, cells: &mut Cells, holds: bool, what: u32) {
+fn expect(rt: &impl Print, cells: &mut Cells, holds: bool, what: Difference) {
     if !holds {
         let case = value(cells, CASE);
-        state::judge(rt, cells, LIST, case, what);
+        state::judge(rt, cells, Kind::Best, case, Some(what));
     }
 }
 
 // The number at a place is this one.
-fn expect_at(rt: &impl Print, cells: &mut Cells, place: u32, x: u32, what: u32) {
+fn expect_at(rt: &impl Print, cells: &mut Cells, place: u32, x: u32, what: Difference) {
     let holds = value(cells, place) == x;
     expect(rt, cells, holds, what);
 }
 
 // Nothing but the refusal comes of it.
-fn expect_refusal(rt: &impl Print, cells: &mut Cells, expected: Refusal) {
-    expect_at(rt, cells, REFUSAL, expected.number, state::REFUSAL);
-    expect_at(rt, cells, PLACE, expected.place, state::PLACE);
-    expect_at(rt, cells, CHANGED, 0, state::BUFFERS);
-    expect_at(rt, cells, CHANGED_TABLES, 0, state::BUFFERS);
+fn expect_refusal(rt: &impl Print, cells: &mut Cells, expected: PlacedRefusal) {
+    let number = expected.refusal.number();
+    let place = asked::narrow(expected.place);
+    expect_at(rt, cells, REFUSAL, number, Difference::Refusal);
+    expect_at(rt, cells, PLACE, place, Difference::Place);
+    expect_at(rt, cells, CHANGED, 0, Difference::Buffers);
+    expect_at(rt, cells, CHANGED_TABLES, 0, Difference::Buffers);
 }
 
 // A legal schedule of the cost that is told; what stands behind it stays. The excess is its cost less half the engine's cycles.
 fn expect_schedule(rt: &impl Print, cells: &mut Cells, cost: u32) {
-    expect_at(rt, cells, REFUSAL, NO_REFUSAL, state::REFUSAL);
-    expect_at(rt, cells, CHANGED, 0, state::BUFFERS);
-    expect_at(rt, cells, LEGAL, 1, NOT_LEGAL);
-    expect_at(rt, cells, PLAYED_COST, cost, state::COST);
+    expect_at(rt, cells, REFUSAL, 0, Difference::Refusal);
+    expect_at(rt, cells, CHANGED, 0, Difference::Buffers);
+    expect_at(rt, cells, LEGAL, 1, Difference::NotLegal);
+    expect_at(rt, cells, PLAYED_COST, cost, Difference::Cost);
     let half = quotient(sum(value(cells, OWN_CYCLES), 1), 2);
     let excess = value(cells, EXCESS);
-    expect(rt, cells, sum(half, excess) == cost, WRONG_EXCESS);
+    expect(
+        rt,
+        cells,
+        sum(half, excess) == cost,
+        Difference::WrongExcess,
+    );
 }
 
 // It is not cheaper than the least cost and no dearer than `bound`, which fewer steps gave.
 fn expect_cost(rt: &impl Print, cells: &mut Cells, cost: u32, bound: u32) {
     let least = value(cells, LEAST_COST);
-    expect(rt, cells, cost >= least, state::COST);
-    expect(rt, cells, cost <= bound, state::COST);
+    expect(rt, cells, cost >= least, Difference::Cost);
+    expect(rt, cells, cost <= bound, Difference::Cost);
 }
 
 // It is called least once no steps are needed any more, and only if it is.
 fn expect_least(rt: &impl Print, cells: &mut Cells, cost: u32, steps: u32) {
     let used = value(cells, STEPS);
     if value(cells, LEAST) == 1 {
-        expect_at(rt, cells, LEAST_COST, cost, NOT_LEAST);
-        expect(rt, cells, used <= steps, STEPS_USED);
+        expect_at(rt, cells, LEAST_COST, cost, Difference::NotLeast);
+        expect(rt, cells, used <= steps, Difference::StepsUsed);
         return;
     }
-    expect(rt, cells, used == steps, STEPS_USED);
-    expect(rt, cells, steps < SUFFICIENT, NOT_LEAST);
+    expect(rt, cells, used == steps, Difference::StepsUsed);
+    expect(rt, cells, steps < SUFFICIENT, Difference::NotLeast);
 }
 
 // With 0 steps it is the engine's own actions.
 fn expect_own(rt: &impl Print, cells: &mut Cells) {
     let count = value(cells, OWN_COUNT);
     let cycles = value(cells, OWN_CYCLES);
-    expect_at(rt, cells, ENTRIES, count, OWN_ACTIONS);
-    expect_at(rt, cells, NOT_OWN, 0, OWN_ACTIONS);
-    expect_at(rt, cells, COST, cycles, state::COST);
+    expect_at(rt, cells, ENTRIES, count, Difference::OwnActions);
+    expect_at(rt, cells, NOT_OWN, 0, Difference::OwnActions);
+    expect_at(rt, cells, COST, cycles, Difference::Cost);
 }
 
 // ---- the cases
@@ -132,7 +124,7 @@ fn expect_own(rt: &impl Print, cells: &mut Cells) {
 fn count_search(cells: &mut Cells, cost: u32) {
     let least = value(cells, LEAST);
     let used = value(cells, STEPS);
-    let cheaper = (cost < value(cells, OWN_CYCLES)) as u32;
+    let cheaper = u32::from(cost < value(cells, OWN_CYCLES));
     state::add(cells, SEARCHES, 1);
     state::add(cells, CALLED_LEAST, least);
     state::add(cells, CHEAPER, less(cheaper, least));
@@ -180,20 +172,24 @@ fn search_case(rt: &impl Print, cells: &mut Cells) {
     least::find(cells, n);
     searches(rt, cells);
     let bettered = value(cells, LEAST_COST) < value(cells, OWN_CYCLES);
-    state::add(cells, BETTERED, bettered as u32);
+    state::add(cells, BETTERED, u32::from(bettered));
     state::add(cells, state::REQUESTS, n);
 }
 
 // A question is refused as it has to be, or answered.
 fn ask_case(rt: &impl Print, cells: &mut Cells, case: u32) {
-    let expected = questions::expected(cells);
-    state::record(rt, cells, LIST, case, expected.number, 0);
-    if expected.number == NO_REFUSAL {
-        search_case(rt, cells);
-        return;
+    match questions::check(cells) {
+        Ok(()) => {
+            state::record(rt, cells, Kind::Best, case, 0, None);
+            search_case(rt, cells);
+        }
+        Err(expected) => {
+            let number = expected.refusal.number();
+            state::record(rt, cells, Kind::Best, case, number, None);
+            asked::ask(cells, SUFFICIENT);
+            expect_refusal(rt, cells, expected);
+        }
     }
-    asked::ask(cells, SUFFICIENT);
-    expect_refusal(rt, cells, expected);
 }
 
 // A right question has a long list once in two times.
@@ -221,15 +217,13 @@ fn one_case(rt: &impl Print, cells: &mut Cells, case: u32) {
 }
 
 fn cases(rt: &impl Print, cells: &mut Cells, n: u32) {
-    let mut k = 0;
-    while k < n {
+    for k in 0..n {
         one_case(rt, cells, k);
-        k += 1;
     }
 }
 
 fn print_all(rt: &impl Print, cells: &Cells) {
-    state::print_kind(rt, cells, LIST, b"list");
+    state::print_kind(rt, cells, Kind::Best, b"list");
     state::print_cell(
         rt,
         cells,

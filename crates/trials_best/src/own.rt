@@ -3,9 +3,9 @@ use crate::layout::{
     COUNTERS, ENGINE_CELLS, ENTRY_WIDTH, FETCH_PRICE, LINES, MARKS, OWN, OWN_COUNT, OWN_CYCLES,
     WRITE_BACK_PRICE, value,
 };
-use crate::requests::Asked;
-use crate::rules::pair;
-use crate::{requests, rules};
+use crate::requests;
+use crate::requests::{Asked, Operation};
+use crate::rules::{EntryKind, pair};
 use trials_cells::cells::{Cells, get, less, product, put, remainder, sum, wipe};
 use trials_cells::state;
 
@@ -20,9 +20,9 @@ fn set_copy(cells: &mut Cells, i: u32, b: u32, counter: u32, mark: u32) {
 }
 
 // One entry more, with what it costs the engine.
-fn add_entry(cells: &mut Cells, kind: u32, i: u32, b: u32, cycles: u32) {
+fn add_entry(cells: &mut Cells, kind: EntryKind, i: u32, b: u32, cycles: u32) {
     let first = sum(OWN, product(value(cells, OWN_COUNT), ENTRY_WIDTH));
-    put(cells, first, 0, kind);
+    put(cells, first, 0, kind as u32);
     put(cells, first, 1, i);
     put(cells, first, 2, b);
     state::add(cells, OWN_COUNT, 1);
@@ -35,15 +35,10 @@ fn leave(cells: &mut Cells, i: u32, b: u32) {
         return;
     }
     if get(cells, MARKS, pair(i, b)) != 0 {
-        add_entry(
-            cells,
-            rules::WRITE_BACK,
-            i,
-            b,
-            value(cells, WRITE_BACK_PRICE),
-        );
+        let price = value(cells, WRITE_BACK_PRICE);
+        add_entry(cells, EntryKind::WriteBack, i, b, price);
     }
-    add_entry(cells, rules::DROP, i, b, 0);
+    add_entry(cells, EntryKind::Drop, i, b, 0);
     set_copy(cells, i, b, 0, 0);
 }
 
@@ -56,18 +51,15 @@ fn leave_line(cells: &mut Cells, i: u32, line: u32, b: u32) {
 
 // Whatever stands in a line leaves.
 fn empty_line(cells: &mut Cells, i: u32, line: u32) {
-    leave_line(cells, i, line, 0);
-    leave_line(cells, i, line, 1);
-    leave_line(cells, i, line, 2);
-    leave_line(cells, i, line, 3);
+    for b in 0..4 {
+        leave_line(cells, i, line, b);
+    }
 }
 
 // All n lines, from line 0 up.
 fn empty_cache(cells: &mut Cells, i: u32, n: u32) {
-    let mut line = 0;
-    while line < n {
+    for line in 0..n {
         empty_line(cells, i, line);
-        line += 1;
     }
 }
 
@@ -80,7 +72,7 @@ fn obtain(cells: &mut Cells, i: u32, b: u32) {
     empty_line(cells, i, remainder(b, value(cells, LINES)));
     put(cells, MARKS, pair(less(1, i), b), 0);
     set_copy(cells, i, b, price, 0);
-    add_entry(cells, rules::FETCH, i, b, price);
+    add_entry(cells, EntryKind::Fetch, i, b, price);
 }
 
 // A write of block b by processor i, which is completed. The other processor, j, pays where it shares the block, and has this counter.
@@ -88,7 +80,7 @@ fn pay(cells: &mut Cells, j: u32, b: u32, shared: u32) {
     state::add(cells, OWN_CYCLES, 1);
     set_copy(cells, j, b, less(shared, 1), 0);
     if shared == 1 {
-        add_entry(cells, rules::DROP, j, b, 0);
+        add_entry(cells, EntryKind::Drop, j, b, 0);
     }
 }
 
@@ -106,14 +98,14 @@ fn write(cells: &mut Cells, i: u32, b: u32) {
 fn serve(cells: &mut Cells, asked: Asked) {
     let i = asked.processor;
     let b = asked.block;
-    if asked.operation == requests::CLEAR {
+    if asked.operation == Operation::Clear {
         empty_cache(cells, i, value(cells, LINES));
-        add_entry(cells, rules::COMPLETE, 0, 0, 0);
+        add_entry(cells, EntryKind::Complete, 0, 0, 0);
         return;
     }
     obtain(cells, i, b);
-    add_entry(cells, rules::COMPLETE, 0, 0, 0);
-    if asked.operation == requests::WRITE {
+    add_entry(cells, EntryKind::Complete, 0, 0, 0);
+    if asked.operation == Operation::Write {
         write(cells, i, b);
     }
 }
@@ -125,9 +117,7 @@ fn serve_next(cells: &mut Cells, t: u32) {
 // The n requests are served from fresh tables: its entries and its cycles stand in the cells.
 pub(crate) fn serve_all(cells: &mut Cells, n: u32) {
     wipe(cells, OWN_COUNT, ENGINE_CELLS);
-    let mut t = 0;
-    while t < n {
+    for t in 0..n {
         serve_next(cells, t);
-        t += 1;
     }
 }

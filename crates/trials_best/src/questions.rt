@@ -4,9 +4,8 @@ use crate::layout::{
     SCHEDULE_LENGTH, WORDS, WRITE_BACK_PRICE, set_value, value,
 };
 use crate::requests;
-use protocol_types::{
-    NO_REFUSAL, NO_SUCH_PROCESSOR, NO_SUCH_VARIABLE, NOT_SEARCHABLE, Setup, WRONG_LENGTH,
-};
+use crate::requests::Operation;
+use protocol_types::{PlacedRefusal, Refusal, Setup};
 use trials_cells::cells::{Cells, get, less, product, put, quotient, remainder, sum};
 use trials_cells::state::{between, draw, word};
 
@@ -20,21 +19,12 @@ const MOST_REQUESTS: u32 = 24;
 
 const MOST_BLOCKS: u32 = 4;
 
-// A refusal number and its place.
-#[derive(Clone, Copy)]
-pub struct Refusal {
-    pub number: u32,
-    pub place: u32,
-}
-
 // ---- right questions
 
 // A number from 1 to `few`, or once in two times from 1 to `most`.
 fn pick_number(cells: &mut Cells, few: u32, most: u32) -> u32 {
-    if draw(cells, 2) == 0 {
-        return between(cells, 1, few);
-    }
-    between(cells, 1, most)
+    let last = if draw(cells, 2) == 0 { few } else { most };
+    between(cells, 1, last)
 }
 
 // Few lines and low prices are more often than others.
@@ -62,10 +52,8 @@ fn right_length(k: u32) -> u32 {
 }
 
 fn put_lengths(cells: &mut Cells) {
-    let mut k = 0;
-    while k < 5 {
+    for k in 0..5 {
         put(cells, LENGTHS, k, right_length(k));
-        k += 1;
     }
 }
 
@@ -131,76 +119,63 @@ pub(crate) fn setup_of(cells: &Cells) -> Setup {
     }
 }
 
-fn refusal_of(number: u32, place: u32) -> Refusal {
-    Refusal {
-        number: number,
-        place: place,
-    }
-}
-
-// Request t, where `after` is what becomes of the requests after it.
-fn request_refusal(cells: &Cells, t: u32, after: Refusal) -> Refusal {
+// Whether request t is refused.
+fn check_request(cells: &Cells, t: u32) -> Result<(), Refusal> {
     let first = requests::request_place(t);
     if get(cells, first, 0) > 1 {
-        return refusal_of(NO_SUCH_PROCESSOR, t);
+        return Err(Refusal::NoSuchProcessor);
     }
-    if get(cells, first, 1) == requests::CLEAR {
-        return after;
+    let variables = product(value(cells, BLOCKS), value(cells, WORDS));
+    let clears = requests::asked_at(cells, t).operation == Operation::Clear;
+    if !clears && get(cells, first, 2) >= variables {
+        return Err(Refusal::NoSuchVariable);
     }
-    if get(cells, first, 2) >= product(value(cells, BLOCKS), value(cells, WORDS)) {
-        return refusal_of(NO_SUCH_VARIABLE, t);
-    }
-    after
+    Ok(())
+}
+
+fn placed(refusal: Refusal, t: u32) -> PlacedRefusal {
+    let place = t as usize;
+    PlacedRefusal { refusal, place }
 }
 
 // The n requests, from the last one down.
-fn requests_refusal(cells: &Cells, n: u32) -> Refusal {
-    let mut refusal = refusal_of(NO_REFUSAL, 0);
-    let mut k = 0;
-    while k < n {
-        k += 1;
-        refusal = request_refusal(cells, less(n, k), refusal);
+fn check_requests(cells: &Cells, n: u32) -> Result<(), PlacedRefusal> {
+    let mut answer = Ok(());
+    for t in (0..n).rev() {
+        if let Err(refusal) = check_request(cells, t) {
+            answer = Err(placed(refusal, t));
+        }
     }
-    refusal
+    answer
 }
 
-// How many of the lent tables and the schedule are not as long as they have to be.
-fn wrong_lengths(cells: &Cells) -> u32 {
-    let mut count = 0;
-    let mut k = 0;
-    while k < 5 {
-        if get(cells, LENGTHS, k) != right_length(k) {
-            count = sum(count, 1);
-        }
-        k += 1;
-    }
-    count
+// Whether one of the lent tables or the schedule is not as long as it has to be.
+fn lengths_wrong(cells: &Cells) -> bool {
+    (0..5).any(|k| get(cells, LENGTHS, k) != right_length(k))
 }
 
 // 12 of n requests.
 fn is_searchable(cells: &Cells, n: u32) -> bool {
-    if value(cells, PROCESSORS) != 2 {
-        return false;
-    }
-    if value(cells, BLOCKS) > MOST_BLOCKS {
-        return false;
-    }
-    n <= MOST_REQUESTS
+    value(cells, PROCESSORS) == 2 && value(cells, BLOCKS) <= MOST_BLOCKS && n <= MOST_REQUESTS
 }
 
-// The refusal that the question has to meet; number 0 if none.
-pub(crate) fn expected(cells: &Cells) -> Refusal {
+// Whether the question is refused for its setup, or for how much is lent.
+fn check_sizes(cells: &Cells, numbers: u32) -> Result<(), Refusal> {
+    setup_of(cells).check()?;
+    if !is_searchable(cells, quotient(numbers, REQUEST_WIDTH)) {
+        return Err(Refusal::NotSearchable);
+    }
+    if lengths_wrong(cells) || remainder(numbers, REQUEST_WIDTH) != 0 {
+        return Err(Refusal::WrongLength);
+    }
+    Ok(())
+}
+
+// The refusal that the question has to meet, if any.
+pub(crate) fn check(cells: &Cells) -> Result<(), PlacedRefusal> {
     let numbers = value(cells, NUMBERS);
-    let n = quotient(numbers, REQUEST_WIDTH);
-    let refusal = setup_of(cells).refusal();
-    if refusal != NO_REFUSAL {
-        return refusal_of(refusal, 0);
+    if let Err(refusal) = check_sizes(cells, numbers) {
+        return Err(placed(refusal, 0));
     }
-    if !is_searchable(cells, n) {
-        return refusal_of(NOT_SEARCHABLE, 0);
-    }
-    if sum(wrong_lengths(cells), remainder(numbers, REQUEST_WIDTH)) != 0 {
-        return refusal_of(WRONG_LENGTH, 0);
-    }
-    requests_refusal(cells, n)
+    check_requests(cells, quotient(numbers, REQUEST_WIDTH))
 }

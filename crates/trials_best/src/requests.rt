@@ -3,14 +3,29 @@ use crate::layout::{BLOCKS, REQUEST_WIDTH, REQUESTS, STYLE, WORDS, value};
 use trials_cells::cells::{Cells, get, product, put, quotient, sum};
 use trials_cells::state::{draw, word};
 
-// The operations. Any other number reads.
+// The numbers of operations. Any other number reads.
 const READ: u32 = 0;
 
-pub const WRITE: u32 = 1;
+const WRITE: u32 = 1;
 
-pub const CLEAR: u32 = 2;
+const CLEAR: u32 = 2;
 
 const OTHER_READ: u32 = 3;
+
+#[derive(Clone, Copy, PartialEq, Eq)]
+pub enum Operation {
+    Read,
+    Write,
+    Clear,
+}
+
+fn operation_of(number: u32) -> Operation {
+    match number {
+        WRITE => Operation::Write,
+        CLEAR => Operation::Clear,
+        _ => Operation::Read,
+    }
+}
 
 // Of 16 requests how many are by processor 1, write, clear, and are of the first block.
 const SECOND: u32 = 0;
@@ -27,7 +42,7 @@ const OF: u32 = 16;
 #[derive(Clone, Copy)]
 pub struct Asked {
     pub processor: u32,
-    pub operation: u32,
+    pub operation: Operation,
     pub block: u32,
 }
 
@@ -40,7 +55,7 @@ pub(crate) fn asked_at(cells: &Cells, t: u32) -> Asked {
     let first = request_place(t);
     Asked {
         processor: get(cells, first, 0),
-        operation: get(cells, first, 1),
+        operation: operation_of(get(cells, first, 1)),
         block: quotient(get(cells, first, 2), value(cells, WORDS)),
     }
 }
@@ -93,7 +108,7 @@ fn put_request(cells: &mut Cells, t: u32) {
     let operation = pick_operation(cells);
     let variable = pick_variable(cells, operation);
     let written = word(cells);
-    put(cells, first, 0, second as u32);
+    put(cells, first, 0, u32::from(second));
     put(cells, first, 1, operation);
     put(cells, first, 2, variable);
     put(cells, first, 3, written);
@@ -101,10 +116,8 @@ fn put_request(cells: &mut Cells, t: u32) {
 
 pub(crate) fn put_requests(cells: &mut Cells, n: u32) {
     pick_style(cells);
-    let mut t = 0;
-    while t < n {
+    for t in 0..n {
         put_request(cells, t);
-        t += 1;
     }
 }
 

@@ -2,7 +2,8 @@
 -- Assumes nothing.
 use Rattle.std.proofs.Common.{◌≡◌, ℕ, ◌+◌, ◌*◌, ◌/◌, ◌%◌, ◌<◌, ◌≤◌, List, get_or, set, refl, lt_of_le_of_lt, le_of_lt, mul-le-mul_left, mul-lt-mul_of_pos_right, add-one, arith, le-ltb, lt-ltb, eq-eqb, ne_eqb}
 use Rattle.trials_cells.specs.Cells.{size, unlike, summed, multiplied, divided, reduced, cell, with, wiped, copied, differing}
-use Rattle.trials_cells.specs.State.{following, added, count_place, judged, totalled}
+use Rattle.trials_cells.specs.declared.state.Kind.{Kind}
+use Rattle.trials_cells.specs.State.{following, count_place, totalled}
 
 -- the product of two numbers of 16 bits fits in 32
 pub fits : {a b : ℕ} → a < 65536 → b < 65536 → a * b < 4294967296
@@ -64,14 +65,6 @@ pub reduced-some : (a b : ℕ) → (b ≡ 0 → ⊥) → a % b ≡ reduced a b
 unfolding reduced
 reduced-some a b h = rw (ne_eqb b 0 h)
 
-pub judged-nothing : (cells : List ℕ) (what : ℕ) → what ≡ 0 → cells ≡ judged cells what
-unfolding judged
-judged-nothing cells what h = rw (eq-eqb what 0 h)
-
-pub judged-something : (cells : List ℕ) (what : ℕ) → (what ≡ 0 → ⊥) → added cells 2 1 ≡ judged cells what
-unfolding judged
-judged-something cells what h = rw (ne_eqb what 0 h)
-
 pub wiped-more : (cells : List ℕ) (f n : ℕ) → wiped cells f (n + 1) ≡ with (wiped cells f n) f n 0
 wiped-more cells f n = rw (add-one n)
 
@@ -81,5 +74,5 @@ copied_more cells a b n = rw (add-one n)
 pub differing-more : (cells : List ℕ) (a b n : ℕ) → differing cells a b (n + 1) ≡ summed (differing cells a b n) (unlike (cell cells a n) (cell cells b n))
 differing-more cells a b n = rw (add-one n)
 
-pub totalled_more : (cells : List ℕ) (kind n : ℕ) → totalled cells kind (n + 1) ≡ summed (totalled cells kind n) (cell cells 0 (count_place kind n))
+pub totalled_more : (cells : List ℕ) (kind : Kind) (n : ℕ) → totalled cells kind (n + 1) ≡ summed (totalled cells kind n) (cell cells 0 (count_place kind n))
 totalled_more cells kind n = rw (add-one n)

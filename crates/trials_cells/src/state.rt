@@ -1,41 +1,51 @@
 // The state of the trials, in the first 256 cells: the random generator, and the counts of what was seen.
-ghost use Rattle.std.specs.Prelude.{◌≡◌, ◌+◌, ◌-◌, ◌*◌, ◌%◌};
+ghost use Rattle.std.specs.Prelude.{◌≡◌, ◌<◌, ◌+◌, ◌-◌, ◌*◌, ◌%◌};
 ghost use Rattle.trials_cells.specs.Cells.{summed, cell, with};
-ghost use Rattle.trials_cells.specs.State.{following, drawn, roll, added, count_place, judged, totalled};
+ghost use Rattle.trials_cells.specs.State.{following, drawn, roll, added, kind_number, count_place, judged, totalled};
 
 use crate::cells::{Cells, get, less, put, remainder, sum};
 
 pub const STATE: u32 = 0;
 
-// The kinds of trials, and what each counts under: refusal numbers, but for looks.
-pub const START: u32 = 0;
+// The kinds of trials. The trials of a kind are counted under refusal numbers, those of looks by whether the block was held.
+#[derive(Clone, Copy)]
+pub enum Kind {
+    Start = 0,
+    Run = 1,
+    Look = 2,
+    Price = 3,
+    Trace = 4,
+    Generate = 5,
+    Best = 6,
+}
 
-pub const RUN: u32 = 1;
-
-pub const LOOK: u32 = 2;
-
-pub const PRICE: u32 = 3;
-
-pub const TRACE: u32 = 4;
+impl Kind {
+    fn number(self) -> u32
+        ensures value { result ≡ kind_number self }
+        ensures few { result < 32 }
+    {
+        self as u32
+    }
+}
 
 // What a trial may differ in.
-pub const REFUSAL: u32 = 1;
-
-pub const PLACE: u32 = 2;
-
-pub const TAKEN: u32 = 3;
-
-pub const ACCOUNT: u32 = 4;
-
-pub const COST: u32 = 5;
-
-pub const BUFFERS: u32 = 6;
-
-pub const SHOWN: u32 = 7;
-
-pub const FACTOR: u32 = 8;
-
-pub const SPLIT: u32 = 9;
+#[derive(Clone, Copy)]
+pub enum Difference {
+    Refusal = 1,
+    Place = 2,
+    Taken = 3,
+    Account = 4,
+    Cost = 5,
+    Buffers = 6,
+    Shown = 7,
+    Factor = 8,
+    Split = 9,
+    NotLegal = 16,
+    StepsUsed = 17,
+    NotLeast = 18,
+    WrongExcess = 19,
+    OwnActions = 20,
+}
 
 // Cells of the state: the generator, the generator as the case began, the differences, and the sums of what was served.
 const GENERATOR: u32 = 0;
@@ -62,8 +72,6 @@ pub const FALSE_MASKS: u32 = 9;
 const COUNTS: u32 = 16;
 
 const NUMBERS: u32 = 32;
-
-const KINDS: u32 = 32;
 
 // How many differences are printed; all are counted.
 const PRINTED: u32 = 20;
@@ -131,10 +139,10 @@ pub fn add(cells: &mut Cells, place: u32, x: u32)
 }
 
 // Where the trials of a kind that ended in a number are counted.
-pub fn count_place(kind: u32, number: u32) -> u32
+pub fn count_place(kind: Kind, number: u32) -> u32
     ensures { result ≡ count_place kind number }
 {
-    sum(COUNTS, kind % KINDS * NUMBERS + number % NUMBERS)
+    sum(COUNTS, kind.number() * NUMBERS + number % NUMBERS)
 }
 
 // What is not taken by standard output is lost, here and below.
@@ -153,29 +161,34 @@ fn print_line(rt: &impl Print, text: &[u8], number: u32) {
 }
 
 // Prints a difference, by the numbers of its kind and of what differs.
-fn print_difference(rt: &impl Print, cells: &Cells, kind: u32, case: u32, what: u32) {
-    if get(cells, STATE, DIFFERENCES) > PRINTED {
-        return;
+fn print_difference(rt: &impl Print, cells: &Cells, kind: Kind, case: u32, what: Difference) {
+    if get(cells, STATE, DIFFERENCES) <= PRINTED {
+        print(rt, b"kind ", kind.number());
+        print(rt, b" case ", case);
+        print(rt, b" seed ", get(cells, STATE, SEED));
+        print_line(rt, b" differs in ", what as u32);
     }
-    print(rt, b"kind ", kind);
-    print(rt, b" case ", case);
-    print(rt, b" seed ", get(cells, STATE, SEED));
-    print_line(rt, b" differs in ", what);
 }
 
-// A trial that differed from the model in `what`, 0 if in nothing.
-pub fn judge(rt: &impl Print, cells: &mut Cells, kind: u32, case: u32, what: u32)
+// A trial that differed from the model in `what`, if in anything.
+pub fn judge(rt: &impl Print, cells: &mut Cells, kind: Kind, case: u32, what: Option<Difference>)
     ensures { cells.new ≡ judged cells.old what }
 {
-    if what == 0 {
-        return;
+    if let Some(what) = what {
+        add(cells, DIFFERENCES, 1);
+        print_difference(rt, cells, kind, case, what);
     }
-    add(cells, DIFFERENCES, 1);
-    print_difference(rt, cells, kind, case, what);
 }
 
-// A trial of a kind ended in this number, and differed from the model in `what`, 0 if in nothing.
-pub fn record(rt: &impl Print, cells: &mut Cells, kind: u32, case: u32, number: u32, what: u32)
+// A trial of a kind ended in this number, and differed from the model in `what`, if in anything.
+pub fn record(
+    rt: &impl Print,
+    cells: &mut Cells,
+    kind: Kind,
+    case: u32,
+    number: u32,
+    what: Option<Difference>,
+)
     ensures { cells.new ≡ judged (added cells.old (count_place kind number) 1) what }
 {
     add(cells, count_place(kind, number), 1);
@@ -183,14 +196,14 @@ pub fn record(rt: &impl Print, cells: &mut Cells, kind: u32, case: u32, number: 
 }
 
 // How many trials of a kind ended in a number.
-pub fn counted(cells: &Cells, kind: u32, number: u32) -> u32
+pub fn counted(cells: &Cells, kind: Kind, number: u32) -> u32
     ensures { result ≡ cell cells.now 0 (count_place kind number) }
 {
     get(cells, STATE, count_place(kind, number))
 }
 
 // How many trials of a kind there were.
-fn total(cells: &Cells, kind: u32) -> u32
+fn total(cells: &Cells, kind: Kind) -> u32
     ensures { result ≡ totalled cells.now kind 32 }
 {
     let mut all = 0;
@@ -201,22 +214,21 @@ fn total(cells: &Cells, kind: u32) -> u32
 }
 
 fn print_count(rt: &impl Print, name: &[u8], number: u32, count: u32) {
-    if count == 0 {
-        return;
+    if count != 0 {
+        print_text(rt, name);
+        print(rt, b" ", number);
+        print_line(rt, b": ", count);
     }
-    print_text(rt, name);
-    print(rt, b" ", number);
-    print_line(rt, b": ", count);
 }
 
-fn print_counts(rt: &impl Print, cells: &Cells, kind: u32, name: &[u8]) {
+fn print_counts(rt: &impl Print, cells: &Cells, kind: Kind, name: &[u8]) {
     for number in 0..NUMBERS {
         print_count(rt, name, number, counted(cells, kind, number));
     }
 }
 
 // Prints how many trials of a kind there were: that number.
-pub fn print_cases(rt: &impl Print, cells: &Cells, kind: u32, name: &[u8]) -> u32
+pub fn print_cases(rt: &impl Print, cells: &Cells, kind: Kind, name: &[u8]) -> u32
     ensures { result ≡ totalled cells.now kind 32 }
 {
     let all = total(cells, kind);
@@ -226,7 +238,7 @@ pub fn print_cases(rt: &impl Print, cells: &Cells, kind: u32, name: &[u8]) -> u3
 }
 
 // The same, and how many ended in each number.
-pub fn print_kind(rt: &impl Print, cells: &Cells, kind: u32, name: &[u8]) -> u32
+pub fn print_kind(rt: &impl Print, cells: &Cells, kind: Kind, name: &[u8]) -> u32
     ensures { result ≡ totalled cells.now kind 32 }
 {
     let all = print_cases(rt, cells, kind, name);

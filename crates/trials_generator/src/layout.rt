@@ -18,10 +18,8 @@ pub const WIDTH: u32 = 4;
 
 // Every number that is lent is a drawn one, so that one that is written, or left, is seen.
 pub(crate) fn put_pattern(cells: &mut Cells) {
-    let mut k = 0;
-    while k < ROOM {
+    for k in 0..ROOM {
         let x = word(cells);
         put(cells, PATTERN, k, x);
-        k += 1;
     }
 }

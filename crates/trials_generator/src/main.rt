@@ -9,16 +9,14 @@ mod setups;
 mod shown;
 
 use crate::layout::{OTHER, REAL, ROOM, WANTED, WIDTH};
-use protocol_types::Setup;
+use protocol_types::{Refusal, Setup};
 use trials_cells::cells::{Cells, differences, product, quotient, remainder, sum};
 use trials_cells::state;
-use trials_cells::state::{between, draw};
+use trials_cells::state::{Difference, Kind, between, draw};
 
 const FIRST_SEED: u32 = 20261117;
 
-// The kind of the trials, and the cell of the state that counts the lists of boards with other blocks.
-const LIST: u32 = 0;
-
+// The cell of the state that counts the lists of boards with other blocks.
 const OTHER_BLOCKS: u32 = 7;
 
 const LISTS: u32 = 8000;
@@ -29,15 +27,26 @@ const LENGTHS: u32 = 400;
 
 const REQUESTS: u32 = 300;
 
-// What a list differed in, of whose numbers `unlike` are not those that are wanted; 0 if in nothing.
-fn difference(expected: u32, refusal: u32, unlike: u32) -> u32 {
-    if refusal != expected {
-        return state::REFUSAL;
+fn refusal_number(answer: Result<(), Refusal>) -> u32 {
+    match answer {
+        Ok(()) => 0,
+        Err(refusal) => refusal.number(),
+    }
+}
+
+// What a list differed in, of whose numbers `unlike` are not those that are wanted.
+fn difference(
+    expected: Result<(), Refusal>,
+    answer: Option<Result<(), Refusal>>,
+    unlike: u32,
+) -> Option<Difference> {
+    if answer != Some(expected) {
+        return Some(Difference::Refusal);
     }
     if unlike > 0 {
-        return state::BUFFERS;
+        return Some(Difference::Buffers);
     }
-    0
+    None
 }
 
 // The list of another setup or of another length: the first `most` cells are those of the list.
@@ -50,9 +59,10 @@ fn compare_other(
     n: u32,
     most: u32,
 ) {
-    let refusal = entry::generate(cells, setup, seed, n, OTHER);
+    let answer = entry::generate(cells, setup, seed, n, OTHER);
     let unlike = differences(cells, REAL, OTHER, most);
-    state::judge(rt, cells, LIST, case, difference(0, refusal, unlike));
+    let what = difference(Ok(()), answer, unlike);
+    state::judge(rt, cells, Kind::Generate, case, what);
     state::add(cells, state::COMPARED, 1);
 }
 
@@ -80,26 +90,25 @@ fn list_case(rt: &impl Print, cells: &mut Cells, case: u32) {
         whole
     };
     let expected = model::generate(cells, setup, seed, n);
-    let refusal = entry::generate(cells, setup, seed, n, REAL);
+    let answer = entry::generate(cells, setup, seed, n, REAL);
     let unlike = differences(cells, WANTED, REAL, ROOM);
-    let what = difference(expected, refusal, unlike);
-    state::record(rt, cells, LIST, case, expected, what);
-    if expected == 0 {
+    let what = difference(expected, answer, unlike);
+    let number = refusal_number(expected);
+    state::record(rt, cells, Kind::Generate, case, number, what);
+    if expected.is_ok() {
         state::add(cells, state::REQUESTS, quotient(n, WIDTH));
         compare_others(rt, cells, case, setup, seed, n);
     }
 }
 
 fn lists(rt: &impl Print, cells: &mut Cells, n: u32) {
-    let mut k = 0;
-    while k < n {
+    for k in 0..n {
         list_case(rt, cells, k);
-        k += 1;
     }
 }
 
 fn print_all(rt: &impl Print, cells: &Cells) {
-    state::print_kind(rt, cells, LIST, b"list");
+    state::print_kind(rt, cells, Kind::Generate, b"list");
     state::print_cell(rt, cells, b"requests compared ", state::REQUESTS);
     state::print_cell(
         rt,

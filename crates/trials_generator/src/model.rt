@@ -1,6 +1,6 @@
 // The model: draws by multiplication, division and binary digits, and refusals from the last condition to the first.
 use crate::layout::{PATTERN, ROOM, WANTED, WIDTH};
-use protocol_types::Setup;
+use protocol_types::{Refusal, Setup};
 use trials_cells::cells::{Cells, copy, product, put, quotient, remainder, sum};
 
 // The numbers of 32 bits, and their binary digits.
@@ -24,51 +24,49 @@ fn add_digits(x: u32, y: u32) -> u32 {
     let mut right = y;
     let mut all = 0;
     let mut power = 1;
-    let mut k = 0;
-    while k < DIGITS {
+    for _ in 0..DIGITS {
         if left % 2 != right % 2 {
             all = sum(all, power);
         }
-        left = left / 2;
-        right = right / 2;
+        left /= 2;
+        right /= 2;
         power = sum(power, power);
-        k += 1;
     }
     all
 }
 
 // The draw after x.
 pub(crate) fn draw_after(x: u32) -> u32 {
-    let a = add_digits(x, (x as u64 * FIRST_FACTOR % NUMBERS) as u32);
+    let a = add_digits(x, (u64::from(x) * FIRST_FACTOR % NUMBERS) as u32);
     let b = add_digits(a, a / DIVISOR);
-    add_digits(b, (b as u64 * LAST_FACTOR % NUMBERS) as u32)
+    add_digits(b, (u64::from(b) * LAST_FACTOR % NUMBERS) as u32)
 }
 
 fn outside(x: u32, most: u32) -> bool {
     x == 0 || x > most
 }
 
-// The refusal number of a list of n numbers, or 0: the condition that comes first is looked at last.
-fn refusal_of(setup: Setup, seed: u32, n: u32) -> u32 {
+// Whether a list of n numbers is refused: the condition that comes first is looked at last.
+fn check(setup: Setup, seed: u32, n: u32) -> Result<(), Refusal> {
     let f = setup.fetch_price;
     let caches = outside(setup.processors, 8) || outside(setup.lines, 64);
-    let mut refusal = 0;
+    let mut answer = Ok(());
     if quotient(n, WIDTH) > MOST_REQUESTS {
-        refusal = 5;
+        answer = Err(Refusal::TooMany);
     }
     if seed == 0 {
-        refusal = 11;
+        answer = Err(Refusal::SeedZero);
     }
     if remainder(n, WIDTH) != 0 {
-        refusal = 2;
+        answer = Err(Refusal::WrongLength);
     }
     if outside(f, 32) || outside(setup.write_back_price, f) {
-        refusal = 10;
+        answer = Err(Refusal::PriceOutOfRange);
     }
     if caches || outside(setup.words, 16) || outside(setup.blocks, 256) {
-        refusal = 1;
+        answer = Err(Refusal::SetupOutOfRange);
     }
-    refusal
+    answer
 }
 
 // Request t of the list that is wanted, x being the draw before it: the last draw of the request.
@@ -81,26 +79,17 @@ fn put_request(cells: &mut Cells, setup: Setup, t: u32, x: u32) -> u32 {
     put(cells, at, 0, remainder(first, setup.processors));
     put(cells, at, 1, third % 2);
     put(cells, at, 2, remainder(second, variables));
-    put(cells, at, 3, 0);
-    if third % 2 == 1 {
-        put(cells, at, 3, third);
-    }
+    put(cells, at, 3, if third % 2 == 1 { third } else { 0 });
     third
 }
 
-// The list of n numbers that is wanted: its refusal number, or 0.
-pub(crate) fn generate(cells: &mut Cells, setup: Setup, seed: u32, n: u32) -> u32 {
+// The list of n numbers that is wanted, unless it is refused.
+pub(crate) fn generate(cells: &mut Cells, setup: Setup, seed: u32, n: u32) -> Result<(), Refusal> {
     copy(cells, PATTERN, WANTED, ROOM);
-    let refusal = refusal_of(setup, seed, n);
-    if refusal != 0 {
-        return refusal;
-    }
-    let count = quotient(n, WIDTH);
+    check(setup, seed, n)?;
     let mut x = seed;
-    let mut t = 0;
-    while t < count {
+    for t in 0..quotient(n, WIDTH) {
         x = put_request(cells, setup, t, x);
-        t += 1;
     }
-    0
+    Ok(())
 }

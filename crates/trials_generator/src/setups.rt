@@ -34,25 +34,26 @@ fn pick_number(cells: &mut Cells, most: u32) -> u32 {
 
 // A setup; in half of them there are no more blocks than words.
 pub(crate) fn pick_setup(cells: &mut Cells) -> Setup {
-    let few = draw(cells, 2) == 0;
-    let most_blocks = if few { MOST_WORDS } else { 256 };
+    let most_blocks = if draw(cells, 2) == 0 { MOST_WORDS } else { 256 };
     let fetch_price = pick_number(cells, MOST_PRICE);
     Setup {
         processors: pick_number(cells, 8),
         lines: pick_number(cells, 64),
         words: pick_number(cells, MOST_WORDS),
         blocks: pick_number(cells, most_blocks),
-        fetch_price: fetch_price,
+        fetch_price,
         write_back_price: pick_number(cells, fetch_price),
     }
 }
 
 // Another setup of as many processors and variables: the words and the blocks change places where they can.
 pub(crate) fn pick_like(cells: &mut Cells, setup: Setup) -> Setup {
-    let mut other = setup;
-    other.lines = between(cells, 1, 64);
-    other.fetch_price = MOST_PRICE;
-    other.write_back_price = between(cells, 1, MOST_PRICE);
+    let mut other = Setup {
+        lines: between(cells, 1, 64),
+        fetch_price: MOST_PRICE,
+        write_back_price: between(cells, 1, MOST_PRICE),
+        ..setup
+    };
     if setup.blocks <= MOST_WORDS {
         other.words = setup.blocks;
         other.blocks = setup.words;

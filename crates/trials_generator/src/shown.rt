@@ -36,12 +36,10 @@ pub(crate) fn print_requests(rt: &impl Print, cells: &mut Cells) {
     };
     entry::generate(cells, board, KNOWN_SEED, product(REQUESTS, WIDTH), OTHER);
     let mut x = KNOWN_SEED;
-    let mut t = 0;
-    while t < REQUESTS {
+    for t in 0..REQUESTS {
         x = print_draw(rt, cells, x);
         x = print_draw(rt, cells, x);
         x = print_draw(rt, cells, x);
         print_request(rt, cells, sum(OTHER, product(t, WIDTH)));
-        t += 1;
     }
 }

@@ -4,6 +4,7 @@
 
 ghost use Rattle.std.specs.Prelude.{◌≡◌, length};
 ghost use Rattle.protocol_types.specs.Answers.{run_answer, price_answer};
+ghost use Rattle.protocol_types.specs.Refusals.{refusal_number};
 ghost use Rattle.protocol.specs.Lent.{lent_masked};
 ghost use Rattle.protocol.specs.Engines.{run as ran};
 ghost use Rattle.protocol.specs.Runs.{masked_engine};
@@ -12,14 +13,14 @@ ghost use Rattle.protocol.specs.Generator.{generate_refusal, generated};
 ghost use Rattle.rival_copies.specs.Copies.{rival_lent};
 ghost use Rattle.run_progress.specs.Progress.{outcome};
 
-use protocol_types::{Account, Entry, PlacedRefusal, Request, RunAnswer, Setup};
+use protocol_types::{Account, Entry, PlacedRefusal, Refusal, Request, RunAnswer, Setup};
 
 // How many requests a list has, and how many entries a schedule.
 pub const REQUESTS: usize = 8;
 
 pub const ENTRIES: usize = 20;
 
-// What a run answered, and the account after it.
+// What a run answers, and the account after it.
 #[derive(Clone, Copy)]
 pub struct Ran {
     pub answer: RunAnswer,
@@ -73,20 +74,17 @@ pub fn price_arrays(
     rival_pricer::price(setup, blocks, held, marks, &entries, &requests)
 }
 
-// What the generator left: the refusal number or 0, and the requests.
+// What the generator answered, and the requests that it left.
 #[derive(Clone, Copy)]
 pub struct Generated {
-    pub refusal: u32,
+    pub answer: Result<(), Refusal>,
     pub requests: [Request; REQUESTS],
 }
 
 // The requests of a seed in an array, by the entry `generate`.
 pub fn generate_array(setup: Setup, seed: u32, mut requests: [Request; REQUESTS]) -> Generated
-    ensures { (result.refusal ≡ generate_refusal setup seed (length requests)) × (result.requests ≡ generated setup seed requests) }
+    ensures { (refusal_number result.answer ≡ generate_refusal setup seed (length requests)) × (result.requests ≡ generated setup seed requests) }
 {
-    let refusal = match generator::generate(setup, seed, &mut requests) {
-        Ok(()) => 0,
-        Err(refusal) => refusal.number(),
-    };
-    Generated { refusal, requests }
+    let answer = generator::generate(setup, seed, &mut requests);
+    Generated { answer, requests }
 }

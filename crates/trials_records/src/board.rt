@@ -25,7 +25,7 @@ const ALL_VARIABLES: usize = VARIABLES as usize;
 
 const ALL_BLOCKS: usize = BLOCKS as usize;
 
-#[derive(Clone, Copy)]
+#[derive(Clone, Copy, PartialEq, Eq)]
 pub struct Tables {
     pub blocks: [u32; SLOTS],
     pub counters: [u32; SLOTS],
@@ -36,7 +36,7 @@ pub struct Tables {
     pub values: [u32; REQUESTS],
 }
 
-#[derive(Clone, Copy)]
+#[derive(Clone, Copy, PartialEq, Eq)]
 pub struct Copies {
     pub blocks: [u32; SLOTS],
     pub held: [u32; SLOTS],
@@ -78,7 +78,7 @@ pub(crate) fn worn_copies() -> Copies {
 
 pub(crate) fn account_of(requests: u32) -> Account {
     Account {
-        requests: requests,
+        requests,
         fetch: 0,
         write_back: 0,
         update: 0,

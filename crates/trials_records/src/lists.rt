@@ -7,21 +7,21 @@ use trials_lending::{ENTRIES, REQUESTS};
 
 fn read(processor: u32, variable: u32) -> Request {
     Request {
-        processor: processor,
+        processor,
         operation: Operation::Read(Variable(variable)),
     }
 }
 
 fn write(processor: u32, variable: u32, value: u32) -> Request {
     Request {
-        processor: processor,
+        processor,
         operation: Operation::Write(Variable(variable), value),
     }
 }
 
 fn clear(processor: u32) -> Request {
     Request {
-        processor: processor,
+        processor,
         operation: Operation::Clear,
     }
 }
@@ -86,18 +86,14 @@ fn schedule() -> [Entry; ENTRIES] {
 fn mostly_below(cells: &mut Cells, n: u32) -> u32 {
     let roll = draw(cells, 64);
     let x = draw(cells, n);
-    if roll == 0 {
-        return n;
-    }
-    x
+    if roll == 0 { n } else { x }
 }
 
 fn any_request(cells: &mut Cells) -> Request {
     let i = mostly_below(cells, board::PROCESSORS);
     let v = mostly_below(cells, board::VARIABLES);
     let x = draw(cells, 1000);
-    let kind = draw(cells, 12);
-    match kind {
+    match draw(cells, 12) {
         0 => clear(i),
         1..=6 => read(i, v),
         _ => write(i, v, x),
@@ -107,8 +103,7 @@ fn any_request(cells: &mut Cells) -> Request {
 fn any_entry(cells: &mut Cells) -> Entry {
     let i = mostly_below(cells, board::PROCESSORS);
     let b = mostly_below(cells, board::BLOCKS);
-    let kind = draw(cells, 5);
-    match kind {
+    match draw(cells, 5) {
         0 => Entry::Fetch(i, Block(b)),
         1 => Entry::WriteBack(i, Block(b)),
         2 => Entry::Drop(i, Block(b)),
@@ -118,16 +113,11 @@ fn any_entry(cells: &mut Cells) -> Entry {
 }
 
 pub(crate) fn any_requests(cells: &mut Cells) -> [Request; REQUESTS] {
-    [
-        any_request(cells),
-        any_request(cells),
-        any_request(cells),
-        any_request(cells),
-        any_request(cells),
-        any_request(cells),
-        any_request(cells),
-        any_request(cells),
-    ]
+    let mut list = [clear(0); REQUESTS];
+    for request in list.iter_mut() {
+        *request = any_request(cells);
+    }
+    list
 }
 
 // The list of the k-th run: the session, what comes after it, and lists that are drawn.

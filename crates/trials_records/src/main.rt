@@ -13,6 +13,7 @@ mod sides;
 use crate::runs::Series;
 use trials_cells::cells::Cells;
 use trials_cells::state;
+use trials_cells::state::Kind;
 
 const FIRST_SEED: u32 = 20261116;
 
@@ -28,33 +29,27 @@ fn all_runs(rt: &impl Print, cells: &mut Cells, n: u32) {
         tables: board::fresh_tables(),
         account: board::account_of(0),
     };
-    let mut k = 0;
-    while k < n {
+    for k in 0..n {
         at = runs::run_case(rt, cells, k, at);
-        k += 1;
     }
 }
 
 fn all_prices(rt: &impl Print, cells: &mut Cells, n: u32) {
-    let mut k = 0;
-    while k < n {
+    for k in 0..n {
         prices::price_case(rt, cells, k);
-        k += 1;
     }
 }
 
 fn all_generated(rt: &impl Print, cells: &mut Cells, n: u32) {
-    let mut k = 0;
-    while k < n {
+    for k in 0..n {
         generated::generate_case(rt, cells, k);
-        k += 1;
     }
 }
 
 fn print_all(rt: &impl Print, cells: &Cells) {
-    state::print_kind(rt, cells, state::RUN, b"run");
-    state::print_kind(rt, cells, state::PRICE, b"price");
-    state::print_kind(rt, cells, generated::GENERATE, b"generate");
+    state::print_kind(rt, cells, Kind::Run, b"run");
+    state::print_kind(rt, cells, Kind::Price, b"price");
+    state::print_kind(rt, cells, Kind::Generate, b"generate");
     state::print_cell(rt, cells, b"requests taken in runs ", state::REQUESTS);
     state::print_cell(rt, cells, b"cycles of legal schedules ", state::CYCLES);
     state::print_cell(rt, cells, b"differences ", state::DIFFERENCES);

@@ -1,171 +1,67 @@
-// What came of a case, in cells, on two sides: by the entry over records and by the one over numbers. Every number that one
-// side has the other must have too.
-use crate::board::{Copies, SLOTS, Tables};
-use crate::numbers::RequestNumbers;
-use protocol_types::Account;
-use trials_cells::cells::{Cells, differences, get, put, sum, wipe};
+// What came of a case on two sides: by the entry over records and by the one over numbers. What one side has the other must
+// have too.
+use protocol_types::{Account, PlacedRefusal};
+use trials_cells::cells::Cells;
 use trials_cells::state;
+use trials_cells::state::{Difference, Kind};
 
-// Where the two sides begin, after the state of the trials, and the cells of each.
-pub const RECORDS: u32 = 256;
-
-pub const NUMBERS: u32 = 384;
-
-const CELLS: u32 = 128;
-
-// Where each part of a side begins: the refusal number, the place, the requests taken, the account, the cost, and the
-// tables or the list.
-const REFUSAL: u32 = 0;
-
-const PLACE: u32 = 1;
-
-const TAKEN: u32 = 2;
-
-const ACCOUNT: u32 = 3;
-
-const COST: u32 = 7;
-
-const TABLES: u32 = 8;
-
-// Room for the longest table.
-const ROOM: u32 = 16;
-
-const WORDS: u32 = TABLES + 3 * ROOM;
-
-const MASKS: u32 = WORDS + 3 * ROOM;
-
-// A place in a list as a number of 32 bits: those of these trials are small.
-fn small(place: usize) -> u32 {
-    if place < 65536 {
-        return place as u32;
-    }
-    65536
+// The parts of an answer, and the account after it; 0 and a fresh account stand where a kind has no such part.
+#[derive(Clone, Copy)]
+pub struct Side {
+    pub refused: Option<PlacedRefusal>,
+    pub taken: usize,
+    pub cost: u32,
+    pub account: Account,
 }
 
-fn lay(cells: &mut Cells, first: u32, list: &[u32]) {
-    let mut k = 0;
-    while k < list.len() {
-        put(cells, first, small(k), list[k]);
-        k += 1;
+fn refusal_number(refused: Option<PlacedRefusal>) -> u32 {
+    match refused {
+        Some(refused) => refused.refusal.number(),
+        None => 0,
     }
 }
 
-fn wide(byte: u8) -> u32 {
-    byte as u32
-}
-
-fn lay_bytes(cells: &mut Cells, first: u32, list: &[u8]) {
-    let mut k = 0;
-    while k < list.len() {
-        put(cells, first, small(k), wide(list[k]));
-        k += 1;
+// What the sides differ in; `same` is whether they left the same tables or list.
+fn difference(records: Side, numbers: Side, same: bool) -> Option<Difference> {
+    if refusal_number(records.refused) != refusal_number(numbers.refused) {
+        return Some(Difference::Refusal);
     }
-}
-
-// Both sides become 0.
-pub(crate) fn clear(cells: &mut Cells) {
-    wipe(cells, RECORDS, CELLS);
-    wipe(cells, NUMBERS, CELLS);
-}
-
-// The numbers of an answer; 0 stands where a kind has no such part.
-pub(crate) fn lay_answer(
-    cells: &mut Cells,
-    side: u32,
-    refusal: u32,
-    place: usize,
-    taken: usize,
-    cost: u32,
-) {
-    put(cells, side, REFUSAL, refusal);
-    put(cells, side, PLACE, small(place));
-    put(cells, side, TAKEN, small(taken));
-    put(cells, side, COST, cost);
-}
-
-pub(crate) fn lay_account(cells: &mut Cells, side: u32, account: Account) {
-    let first = sum(side, ACCOUNT);
-    put(cells, first, 0, account.requests);
-    put(cells, first, 1, account.fetch);
-    put(cells, first, 2, account.write_back);
-    put(cells, first, 3, account.update);
-}
-
-// Three numbers for each slot: those of an engine's lines, or of a rival's copies.
-fn lay_lines(cells: &mut Cells, side: u32, a: [u32; SLOTS], b: [u32; SLOTS], c: [u32; SLOTS]) {
-    let first = sum(side, TABLES);
-    lay(cells, first, &a);
-    lay(cells, sum(first, ROOM), &b);
-    lay(cells, sum(first, 2 * ROOM), &c);
-}
-
-fn lay_words(cells: &mut Cells, side: u32, tables: Tables) {
-    let first = sum(side, WORDS);
-    let words = tables.words;
-    lay(cells, first, &words);
-    let memory = tables.memory;
-    lay(cells, sum(first, ROOM), &memory);
-    let values = tables.values;
-    lay(cells, sum(first, 2 * ROOM), &values);
-}
-
-pub(crate) fn lay_tables(cells: &mut Cells, side: u32, tables: Tables) {
-    let blocks = tables.blocks;
-    let counters = tables.counters;
-    let marks = tables.marks;
-    let masks = tables.masks;
-    lay_lines(cells, side, blocks, counters, marks);
-    lay_words(cells, side, tables);
-    lay_bytes(cells, sum(side, MASKS), &masks);
-}
-
-pub(crate) fn lay_copies(cells: &mut Cells, side: u32, copies: Copies) {
-    let blocks = copies.blocks;
-    let held = copies.held;
-    let marks = copies.marks;
-    lay_lines(cells, side, blocks, held, marks);
-}
-
-// The numbers of a list of requests.
-pub(crate) fn lay_list(cells: &mut Cells, side: u32, list: RequestNumbers) {
-    lay(cells, sum(side, TABLES), &list);
-}
-
-// Whether the n cells from `first` on differ on the two sides.
-fn differ(cells: &Cells, first: u32, n: u32) -> bool {
-    differences(cells, sum(RECORDS, first), sum(NUMBERS, first), n) > 0
-}
-
-// What the sides differ in; 0 if in nothing.
-fn difference(cells: &Cells) -> u32 {
-    if differ(cells, REFUSAL, 1) {
-        return state::REFUSAL;
+    if records.refused != numbers.refused {
+        return Some(Difference::Place);
     }
-    if differ(cells, PLACE, 1) {
-        return state::PLACE;
+    if records.taken != numbers.taken {
+        return Some(Difference::Taken);
     }
-    if differ(cells, TAKEN, 1) {
-        return state::TAKEN;
+    if records.account != numbers.account {
+        return Some(Difference::Account);
     }
-    if differ(cells, ACCOUNT, 4) {
-        return state::ACCOUNT;
+    if records.cost != numbers.cost {
+        return Some(Difference::Cost);
     }
-    if differ(cells, COST, 1) {
-        return state::COST;
+    if !same {
+        return Some(Difference::Buffers);
     }
-    if differ(cells, TABLES, CELLS - TABLES) {
-        return state::BUFFERS;
-    }
-    0
+    None
+}
+
+// A number of requests as one of 32 bits: those of these trials are small.
+fn small(taken: usize) -> u32 {
+    if taken < 65536 { taken as u32 } else { 65536 }
 }
 
 // A case of a kind ended as the sides say. The requests taken and the cost are added up, of the entry over records.
-pub(crate) fn judge(rt: &impl Print, cells: &mut Cells, kind: u32, case: u32) {
-    let what = difference(cells);
-    let refusal = get(cells, RECORDS, REFUSAL);
-    let taken = get(cells, RECORDS, TAKEN);
-    let cost = get(cells, RECORDS, COST);
-    state::record(rt, cells, kind, case, refusal, what);
-    state::add(cells, state::REQUESTS, taken);
-    state::add(cells, state::CYCLES, cost);
+pub(crate) fn judge(
+    rt: &impl Print,
+    cells: &mut Cells,
+    kind: Kind,
+    case: u32,
+    records: Side,
+    numbers: Side,
+    same: bool,
+) {
+    let what = difference(records, numbers, same);
+    let number = refusal_number(records.refused);
+    state::record(rt, cells, kind, case, number, what);
+    state::add(cells, state::REQUESTS, small(records.taken));
+    state::add(cells, state::CYCLES, records.cost);
 }

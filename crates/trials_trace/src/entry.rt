@@ -2,14 +2,14 @@
 ghost use Rattle.std.specs.Prelude.{◌≤◌, length};
 
 use crate::layout;
-use crate::layout::{BYTES, Lending, ROOM};
+use crate::layout::{BYTES, ROOM, Table, WrongLength};
 use trace_lines::ReportNumbers;
 use trials_cells::cells::{Cells, get, sum};
 
 // Room for a trace.
 const LONGEST: usize = 8200;
 
-pub type Table = [u32; ROOM];
+type Numbers = [u32; ROOM];
 
 // What the entry answered, and how many cells of its tables are not the model's.
 #[derive(Clone, Copy)]
@@ -21,11 +21,9 @@ pub struct Counted {
 // The words of a table become numbers counted from `from`.
 fn fill(to: &mut [u32], from: u32) {
     let mut number = from;
-    let mut k = 0;
-    while k < to.len() {
-        to[k] = number;
+    for x in to.iter_mut() {
+        *x = number;
         number = sum(number, 1);
-        k += 1;
     }
 }
 
@@ -33,32 +31,26 @@ fn fill(to: &mut [u32], from: u32) {
 fn within(n: u32, room: usize) -> usize
     ensures { result ≤ room }
 {
-    let k = n as usize;
-    if k <= room {
-        return k;
-    }
-    room
+    room.min(n as usize)
 }
 
 // A table as it is before the case: how much of it is lent.
-fn lend(to: &mut Table, lending: Lending, case: u32, table: u32) -> usize
+fn lend(to: &mut Numbers, wrong: Option<WrongLength>, case: u32, table: Table) -> usize
     ensures { result ≤ length to.new }
 {
     fill(to, layout::scattered(case, table));
-    within(layout::length(lending, table), ROOM)
+    within(layout::length(wrong, table), ROOM)
 }
 
 // How many cells of a table are not the model's, which begin at `first`.
-fn unlike(cells: &Cells, first: u32, table: &Table) -> u32 {
+fn unlike(cells: &Cells, first: u32, table: &Numbers) -> u32 {
     let mut count = 0;
     let mut place = first;
-    let mut k = 0;
-    while k < ROOM {
-        if table[k] != get(cells, place, 0) {
+    for x in table {
+        if *x != get(cells, place, 0) {
             count = sum(count, 1);
         }
         place = sum(place, 1);
-        k += 1;
     }
     count
 }
@@ -71,10 +63,8 @@ fn set_byte(bytes: &mut [u8], k: u32, x: u32) {
 }
 
 fn fill_bytes(cells: &Cells, n: u32, to: &mut [u8]) {
-    let mut k = 0;
-    while k < n {
+    for k in 0..n {
         set_byte(to, k, get(cells, BYTES, k));
-        k += 1;
     }
 }
 
@@ -87,18 +77,18 @@ fn lend_bytes(cells: &Cells, n: u32, to: &mut [u8; LONGEST]) -> usize
 }
 
 // The trace of the first n bytes.
-pub(crate) fn count(cells: &Cells, lending: Lending, n: u32, case: u32) -> Counted {
+pub(crate) fn count(cells: &Cells, wrong: Option<WrongLength>, n: u32, case: u32) -> Counted {
     let mut blocks = [0u32; ROOM];
     let mut counters = [0u32; ROOM];
     let mut marks = [0u32; ROOM];
     let mut words = [0u32; ROOM];
     let mut memory = [0u32; ROOM];
     let mut bytes = [0u8; LONGEST];
-    let a = lend(&mut blocks, lending, case, layout::NUMBERS_TABLE);
-    let b = lend(&mut counters, lending, case, layout::COUNTERS_TABLE);
-    let c = lend(&mut marks, lending, case, layout::MARKS_TABLE);
-    let d = lend(&mut words, lending, case, layout::WORDS_TABLE);
-    let e = lend(&mut memory, lending, case, layout::MEMORY_TABLE);
+    let a = lend(&mut blocks, wrong, case, Table::Numbers);
+    let b = lend(&mut counters, wrong, case, Table::Counters);
+    let c = lend(&mut marks, wrong, case, Table::Marks);
+    let d = lend(&mut words, wrong, case, Table::Words);
+    let e = lend(&mut memory, wrong, case, Table::Memory);
     let f = lend_bytes(cells, n, &mut bytes);
     let counted = trace::count_trace(
         &bytes[..f],

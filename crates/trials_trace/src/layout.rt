@@ -5,15 +5,14 @@ use trials_cells::cells::{Cells, product, put, sum};
 pub const BYTES: u32 = 256;
 
 // The tables: block numbers, counters, marks, words and main memory, in room for the longest and a few cells more each.
-pub const NUMBERS_TABLE: u32 = 0;
-
-pub const COUNTERS_TABLE: u32 = 1;
-
-pub const MARKS_TABLE: u32 = 2;
-
-pub const WORDS_TABLE: u32 = 3;
-
-pub const MEMORY_TABLE: u32 = 4;
+#[derive(Clone, Copy, PartialEq, Eq)]
+pub enum Table {
+    Numbers = 0,
+    Counters = 1,
+    Marks = 2,
+    Words = 3,
+    Memory = 4,
+}
 
 pub const TABLES: u32 = 5;
 
@@ -48,38 +47,37 @@ pub const ALL_WORDS: u32 = 128;
 
 pub const VARIABLES: u32 = 256;
 
-// The table whose length is wrong, and that length; no table if it is not below TABLES.
+// A table that is lent at a wrong length.
 #[derive(Clone, Copy)]
-pub struct Lending {
-    pub table: u32,
+pub struct WrongLength {
+    pub table: Table,
     pub length: u32,
 }
 
-pub(crate) fn right_length(table: u32) -> u32 {
+pub(crate) fn right_length(table: Table) -> u32 {
     match table {
-        NUMBERS_TABLE | COUNTERS_TABLE | MARKS_TABLE => SLOTS,
-        WORDS_TABLE => ALL_WORDS,
-        _ => VARIABLES,
+        Table::Numbers | Table::Counters | Table::Marks => SLOTS,
+        Table::Words => ALL_WORDS,
+        Table::Memory => VARIABLES,
     }
 }
 
-pub(crate) fn length(lending: Lending, table: u32) -> u32 {
-    if lending.table == table {
-        return lending.length;
+// The length at which a table is lent.
+pub(crate) fn length(wrong: Option<WrongLength>, table: Table) -> u32 {
+    match wrong {
+        Some(wrong) if wrong.table == table => wrong.length,
+        _ => right_length(table),
     }
-    right_length(table)
 }
 
 // What the first cell of a table holds before a case.
-pub(crate) fn scattered(case: u32, table: u32) -> u32 {
-    sum(case, product(table, TABLE_CELLS))
+pub(crate) fn scattered(case: u32, table: Table) -> u32 {
+    sum(case, product(table as u32, TABLE_CELLS))
 }
 
 // Every cell of the tables gets a number of its own.
 pub(crate) fn scatter(cells: &mut Cells, case: u32) {
-    let mut k = 0;
-    while k < TABLES * TABLE_CELLS {
+    for k in 0..TABLES * TABLE_CELLS {
         put(cells, NUMBERS, k, sum(case, k));
-        k += 1;
     }
 }

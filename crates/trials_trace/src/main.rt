@@ -9,58 +9,49 @@ mod text;
 
 use crate::entry::Counted;
 use crate::reading::Reading;
-use protocol_types::Account;
 use trials_cells::cells::Cells;
 use trials_cells::state;
+use trials_cells::state::{Difference, Kind};
 
 // The generator as the trials of runs and prices left it, when all were one program.
 const FIRST_SEED: u32 = 1381274556;
 
 const CASES: u32 = 6000;
 
-// What a trial differed in; 0 if in nothing.
-fn differs(expected: Reading, counted: Counted) -> u32 {
+// What a trial differed in.
+fn difference(expected: Reading, counted: Counted) -> Option<Difference> {
     let report = counted.report;
-    if report.refusal != expected.refusal {
-        return state::REFUSAL;
+    if report.refusal != expected.refusal_number() {
+        return Some(Difference::Refusal);
     }
-    if report.line != expected.line {
-        return state::PLACE;
+    if report.line != expected.refused_line() {
+        return Some(Difference::Place);
     }
-    let a = report.account;
-    let b = expected.account;
-    if accounts_differ(a, b) {
-        return state::ACCOUNT;
+    if report.account != expected.account {
+        return Some(Difference::Account);
     }
     if counted.unlike > 0 {
-        return state::BUFFERS;
+        return Some(Difference::Buffers);
     }
-    0
-}
-
-// Whether two accounts are not the same.
-fn accounts_differ(a: Account, b: Account) -> bool {
-    let cycles = a.fetch != b.fetch || a.write_back != b.write_back || a.update != b.update;
-    cycles || a.requests != b.requests
+    None
 }
 
 // A trace, by the model and by the entry.
 fn trace_case(rt: &impl Print, cells: &mut Cells, case: u32) {
     state::begin(cells);
     let n = text::put_trace(cells);
-    let lending = text::pick_lending(cells);
+    let wrong = text::pick_wrong_length(cells);
     layout::scatter(cells, case);
-    let expected = reading::count(cells, lending, n);
-    let counted = entry::count(cells, lending, n, case);
-    let what = differs(expected, counted);
-    state::record(rt, cells, state::TRACE, case, expected.refusal, what);
+    let expected = reading::count(cells, wrong, n);
+    let counted = entry::count(cells, wrong, n, case);
+    let what = difference(expected, counted);
+    let number = expected.refusal_number();
+    state::record(rt, cells, Kind::Trace, case, number, what);
 }
 
 fn traces(rt: &impl Print, cells: &mut Cells, n: u32) {
-    let mut k = 0;
-    while k < n {
+    for k in 0..n {
         trace_case(rt, cells, k);
-        k += 1;
     }
 }
 
@@ -68,6 +59,6 @@ fn main(rt: HostRuntime) {
     let mut cells = [0u32; trials_cells::cells::SIZE];
     state::set_seed(&mut cells, FIRST_SEED);
     traces(&rt, &mut cells, CASES);
-    state::print_kind(&rt, &cells, state::TRACE, b"trace");
+    state::print_kind(&rt, &cells, Kind::Trace, b"trace");
     state::print_cell(&rt, &cells, b"differences ", state::DIFFERENCES);
 }

@@ -1,14 +1,11 @@
 // A din trace, line by line: a line is found whole before its parts are.
-use crate::layout::{BYTES, Lending, PROCESSORS, TABLES, VARIABLES};
+use crate::layout::{BYTES, PROCESSORS, VARIABLES, WrongLength};
 use crate::tables;
 use crate::tables::Cycles;
 use crate::text::{
     ADDRESSES, BLANK, CARRIAGE_RETURN, DIGIT_0, LOWER, NEWLINE, TAB, UPPER, VARIABLE_ADDRESSES,
 };
-use protocol_types::{
-    ACCOUNT_FULL, Account, MALFORMED_LINE, NO_REFUSAL, NO_SUCH_PROCESSOR, NO_SUCH_VARIABLE,
-    UNKNOWN_LABEL, WRONG_LENGTH,
-};
+use protocol_types::{Account, Refusal};
 use trials_cells::cells::{Cells, get, less, sum};
 
 // The labels: 1 writes, the others below READS_AND_WRITES read, and one more clears.
@@ -22,27 +19,47 @@ const LONGEST_LINE: u32 = 80;
 
 const MOST_DIGITS: u32 = 8;
 
-// The value of a byte that is no hexadecimal digit.
-const NO_DIGIT: u32 = 16;
-
 // An account has no more requests.
 const MOST_REQUESTS: u32 = 1000000;
 
-// What a trace came to. `at` is where its next line starts.
+// What a trace came to. `at` is where its next line starts; after a refusal no line is read.
 #[derive(Clone, Copy)]
 pub struct Reading {
     pub at: u32,
     pub account: Account,
-    pub refusal: u32,
-    pub line: u32,
+    pub refused: Option<RefusedLine>,
 }
 
-// A line's label and address, and whether it is malformed, as a refusal.
+// Why a trace was refused, and at which line; at 0 where no line was read.
+#[derive(Clone, Copy)]
+pub struct RefusedLine {
+    refusal: Refusal,
+    line: u32,
+}
+
+impl Reading {
+    // The refusal number, or 0.
+    pub fn refusal_number(self) -> u32 {
+        match self.refused {
+            Some(refused) => refused.refusal.number(),
+            None => 0,
+        }
+    }
+
+    // The line that was refused, or 0.
+    pub fn refused_line(self) -> u32 {
+        match self.refused {
+            Some(refused) => refused.line,
+            None => 0,
+        }
+    }
+}
+
+// A line's label and address.
 #[derive(Clone, Copy)]
 struct Parts {
     label: u32,
     address: u32,
-    refusal: u32,
 }
 
 // Byte k of the trace.
@@ -54,69 +71,40 @@ fn is_blank(b: u32) -> bool {
     b == BLANK || b == TAB
 }
 
-// The value of a hexadecimal digit; NO_DIGIT of another byte.
-fn digit(b: u32) -> u32 {
-    if b >= DIGIT_0 {
-        if b <= 57 {
-            return b - DIGIT_0;
-        }
+// The value of a hexadecimal digit.
+fn digit(b: u32) -> Option<u32> {
+    match b {
+        48..=57 => Some(b - DIGIT_0),
+        65..=70 => Some(b - UPPER),
+        97..=102 => Some(b - LOWER),
+        _ => None,
     }
-    if b >= 65 {
-        if b <= 70 {
-            return b - UPPER;
-        }
-    }
-    if b >= 97 {
-        if b <= 102 {
-            return b - LOWER;
-        }
-    }
-    NO_DIGIT
 }
 
 // Where the line ends that starts at `start`: at its newline, or at the end of n bytes.
 fn line_end(cells: &Cells, start: u32, n: u32) -> u32 {
-    let mut k = start;
-    while k < n {
-        if byte(cells, k) == NEWLINE {
-            return k;
-        }
-        k += 1;
-    }
-    k
+    (start..n).find(|k| byte(cells, *k) == NEWLINE).unwrap_or(n)
 }
 
 // The first byte from `start` to `end` that is no blank and no tab.
 fn blanks_end(cells: &Cells, start: u32, end: u32) -> u32 {
-    let mut k = start;
-    while k < end {
-        if !is_blank(byte(cells, k)) {
-            return k;
-        }
-        k += 1;
-    }
-    k
+    (start..end)
+        .find(|k| !is_blank(byte(cells, *k)))
+        .unwrap_or(end)
 }
 
 // The first byte from `start` to `end` that is no hexadecimal digit.
 fn digits_end(cells: &Cells, start: u32, end: u32) -> u32 {
-    let mut k = start;
-    while k < end {
-        if digit(byte(cells, k)) == NO_DIGIT {
-            return k;
-        }
-        k += 1;
-    }
-    k
+    (start..end)
+        .find(|k| digit(byte(cells, *k)).is_none())
+        .unwrap_or(end)
 }
 
 // The number of the digits from `start` to `end`.
 fn number(cells: &Cells, start: u32, end: u32) -> u32 {
-    let mut value: u32 = 0;
-    let mut k = start;
-    while k < end {
-        value = shifted(value, digit(byte(cells, k)));
-        k += 1;
+    let mut value = 0;
+    for k in start..end {
+        value = shifted(value, digit(byte(cells, k)).unwrap_or(0));
     }
     value
 }
@@ -127,56 +115,29 @@ fn shifted(value: u32, x: u32) -> u32 {
 
 // Whether what follows an address at `k` is the line's end, or a blank, a tab or a carriage return.
 fn closed(cells: &Cells, k: u32, end: u32) -> bool {
-    if k >= end {
-        return true;
-    }
     let b = byte(cells, k);
-    is_blank(b) || b == CARRIAGE_RETURN
+    k >= end || is_blank(b) || b == CARRIAGE_RETURN
 }
 
-// The refusal of a malformed line from `start` to `end`: it is empty or too long, its label is no digit, no blank follows it, or its address,
-// from `from` to `to`, has no digit or more than eight; 0 if none of these.
-fn malformed(start: u32, end: u32, label: u32, from: u32, to: u32) -> u32 {
-    if start >= end {
-        return MALFORMED_LINE;
-    }
-    if less(end, start) > LONGEST_LINE {
-        return MALFORMED_LINE;
-    }
-    if label > 9 {
-        return MALFORMED_LINE;
-    }
-    if from == sum(start, 1) {
-        return MALFORMED_LINE;
-    }
-    if to == from {
-        return MALFORMED_LINE;
-    }
-    if less(to, from) > MOST_DIGITS {
-        return MALFORMED_LINE;
-    }
-    NO_REFUSAL
+// Whether a line from `start` to `end` is malformed: it is empty or too long, its label is no digit below 10, no blank follows it, or its address,
+// from `from` to `to`, has no digit or more than eight.
+fn malformed(start: u32, end: u32, label: u32, from: u32, to: u32) -> bool {
+    let length = less(end, start);
+    let digits = less(to, from);
+    let unlabelled = label > 9 || from == sum(start, 1);
+    length == 0 || length > LONGEST_LINE || unlabelled || digits == 0 || digits > MOST_DIGITS
 }
 
-// The same, for what follows an address that ends at `to`, too.
-fn line_refusal(cells: &Cells, to: u32, end: u32, malformed: u32) -> u32 {
-    if closed(cells, to, end) {
-        return malformed;
-    }
-    MALFORMED_LINE
-}
-
-// The parts of the line from `start` to `end`. They mean nothing if it is malformed.
-fn split(cells: &Cells, start: u32, end: u32) -> Parts {
-    let label = digit(byte(cells, start));
+// The parts of the line from `start` to `end`, unless it is malformed.
+fn split(cells: &Cells, start: u32, end: u32) -> Result<Parts, Refusal> {
+    let label = digit(byte(cells, start)).ok_or(Refusal::MalformedLine)?;
     let from = blanks_end(cells, sum(start, 1), end);
     let to = digits_end(cells, from, end);
-    let shape = malformed(start, end, label, from, to);
-    Parts {
-        label: label,
-        address: number(cells, from, to),
-        refusal: line_refusal(cells, to, end, shape),
+    if malformed(start, end, label, from, to) || !closed(cells, to, end) {
+        return Err(Refusal::MalformedLine);
     }
+    let address = number(cells, from, to);
+    Ok(Parts { label, address })
 }
 
 // The processor and the variable of an address.
@@ -190,30 +151,31 @@ fn variable(address: u32) -> u32 {
 
 // Whether the label and the address name a variable that there is not. A clear names none.
 fn names_wrongly(label: u32, address: u32) -> bool {
-    if label == CLEAR {
-        return false;
-    }
-    variable(address) >= VARIABLES
+    label != CLEAR && variable(address) >= VARIABLES
 }
 
-// The refusal of a line, the conditions in their order.
-fn refused(line: Parts, account: Account) -> u32 {
-    if line.refusal != NO_REFUSAL {
-        return line.refusal;
-    }
+// Whether a line is refused for what it asks, the conditions in their order.
+fn check(line: Parts, account: Account) -> Result<(), Refusal> {
     if line.label >= READS_AND_WRITES && line.label != CLEAR {
-        return UNKNOWN_LABEL;
+        return Err(Refusal::UnknownLabel);
     }
     if processor(line.address) >= PROCESSORS {
-        return NO_SUCH_PROCESSOR;
+        return Err(Refusal::NoSuchProcessor);
     }
     if names_wrongly(line.label, line.address) {
-        return NO_SUCH_VARIABLE;
+        return Err(Refusal::NoSuchVariable);
     }
     if account.requests >= MOST_REQUESTS {
-        return ACCOUNT_FULL;
+        return Err(Refusal::AccountFull);
     }
-    NO_REFUSAL
+    Ok(())
+}
+
+// The line from `start` to `end`, unless it is refused.
+fn asked(cells: &Cells, start: u32, end: u32, account: Account) -> Result<Parts, Refusal> {
+    let line = split(cells, start, end)?;
+    check(line, account)?;
+    Ok(line)
 }
 
 // The account with one request more.
@@ -239,66 +201,60 @@ fn serve(cells: &mut Cells, line: Parts, x: u32) -> Cycles {
 // The line that ends at `end` is served, as the account's next request. A write has the number of its request as its value.
 fn served(cells: &mut Cells, line: Parts, account: Account, end: u32) -> Reading {
     let cycles = serve(cells, line, sum(account.requests, 1));
-    reading_of(sum(end, 1), entered(account, cycles), NO_REFUSAL, 0)
-}
-
-fn reading_of(at: u32, account: Account, refusal: u32, line: u32) -> Reading {
     Reading {
-        at: at,
-        account: account,
-        refusal: refusal,
-        line: line,
+        at: sum(end, 1),
+        account: entered(account, cycles),
+        refused: None,
     }
 }
 
-// Whether a trace of n bytes has no line to read.
-fn is_over(so_far: Reading, n: u32) -> bool {
-    if so_far.refusal != NO_REFUSAL {
-        return true;
-    }
-    so_far.at >= n
-}
-
-// The reading after its next line; after the last, or after a refusal, nothing changes.
+// The reading after its next line; after the last of n bytes, or after a refusal, nothing changes.
 fn next_line(cells: &mut Cells, n: u32, so_far: Reading) -> Reading {
-    if is_over(so_far, n) {
+    if so_far.refused.is_some() || so_far.at >= n {
         return so_far;
     }
     let account = so_far.account;
     let end = line_end(cells, so_far.at, n);
-    let line = split(cells, so_far.at, end);
-    let refusal = refused(line, account);
-    if refusal != NO_REFUSAL {
-        return reading_of(so_far.at, account, refusal, sum(account.requests, 1));
+    match asked(cells, so_far.at, end, account) {
+        Ok(line) => served(cells, line, account, end),
+        Err(refusal) => refused(so_far, refusal, sum(account.requests, 1)),
     }
-    served(cells, line, account, end)
 }
 
-fn unread(refusal: u32) -> Reading {
-    let fresh = Account {
-        requests: 0,
-        fetch: 0,
-        write_back: 0,
-        update: 0,
-    };
-    reading_of(0, fresh, refusal, 0)
+fn refused(so_far: Reading, refusal: Refusal, line: u32) -> Reading {
+    Reading {
+        refused: Some(RefusedLine { refusal, line }),
+        ..so_far
+    }
+}
+
+// Nothing is read yet.
+fn unread() -> Reading {
+    Reading {
+        at: 0,
+        account: Account {
+            requests: 0,
+            fetch: 0,
+            write_back: 0,
+            update: 0,
+        },
+        refused: None,
+    }
 }
 
 // There are no more lines than bytes.
 fn read_lines(cells: &mut Cells, n: u32) -> Reading {
-    let mut so_far = unread(NO_REFUSAL);
-    let mut t = 0;
-    while t < n {
+    let mut so_far = unread();
+    for _ in 0..n {
         so_far = next_line(cells, n, so_far);
-        t += 1;
     }
     so_far
 }
 
 // A trace of n bytes over lent tables, which become what they should be after it.
-pub(crate) fn count(cells: &mut Cells, lending: Lending, n: u32) -> Reading {
-    if lending.table < TABLES {
-        return unread(WRONG_LENGTH);
+pub(crate) fn count(cells: &mut Cells, wrong: Option<WrongLength>, n: u32) -> Reading {
+    if wrong.is_some() {
+        return refused(unread(), Refusal::WrongLength, 0);
     }
     tables::start(cells);
     read_lines(cells, n)

@@ -13,6 +13,12 @@ pub struct Cycles {
     pub update: u32,
 }
 
+const NO_CYCLES: Cycles = Cycles {
+    fetch: 0,
+    write_back: 0,
+    update: 0,
+};
+
 // The tables of a fresh board.
 pub(crate) fn start(cells: &mut Cells) {
     wipe(cells, NUMBERS, SLOTS);
@@ -39,34 +45,26 @@ fn home(b: u32) -> u32 {
 
 fn holds(cells: &Cells, i: u32, b: u32) -> bool {
     let k = slot(i, b);
-    if get(cells, COUNTERS, k) == 0 {
-        return false;
-    }
-    get(cells, NUMBERS, k) == b
+    get(cells, COUNTERS, k) != 0 && get(cells, NUMBERS, k) == b
 }
 
 // The counter of processor j's copy of block b; 0 if it has none, or is processor i.
 fn other_counter(cells: &Cells, i: u32, j: u32, b: u32) -> u32 {
-    if j == i {
-        return 0;
-    }
-    if holds(cells, j, b) {
+    if j != i && holds(cells, j, b) {
         return get(cells, COUNTERS, slot(j, b));
     }
     0
 }
 
-// The processor other than i that holds block b with the smallest counter, the lowest among equals; PROCESSORS if none
-// holds it. It is sought from the top, and no counter is over FETCH_PRICE.
-fn payer(cells: &Cells, i: u32, b: u32) -> u32 {
-    let mut found = PROCESSORS;
+// The processor other than i that holds block b with the smallest counter, the lowest among equals. It is sought from the
+// top, and no counter is over FETCH_PRICE.
+fn payer(cells: &Cells, i: u32, b: u32) -> Option<u32> {
+    let mut found = None;
     let mut smallest = FETCH_PRICE;
-    let mut j = PROCESSORS;
-    while j > 0 {
-        j -= 1;
+    for j in (0..PROCESSORS).rev() {
         let c = other_counter(cells, i, j, b);
         if c > 0 && c <= smallest {
-            found = j;
+            found = Some(j);
             smallest = c;
         }
     }
@@ -101,25 +99,24 @@ fn vacate(cells: &mut Cells, k: u32) -> u32 {
 fn vacate_all(cells: &mut Cells, i: u32) -> u32 {
     let first = product(i, LINES);
     let mut written = 0;
-    let mut k = 0;
-    while k < LINES {
+    for k in 0..LINES {
         written = sum(written, vacate(cells, sum(first, k)));
-        k += 1;
     }
     written
 }
 
 // Processor i's cache is cleared.
 pub(crate) fn clear(cells: &mut Cells, i: u32) -> Cycles {
-    cycles_of(0, vacate_all(cells, i), 0)
+    Cycles {
+        write_back: vacate_all(cells, i),
+        ..NO_CYCLES
+    }
 }
 
 // Whoever holds block b writes it back if it is marked. The bus carries the words to the reader too, so this costs nothing.
 fn release(cells: &mut Cells, b: u32) {
-    let mut j = 0;
-    while j < PROCESSORS {
+    for j in 0..PROCESSORS {
         release_line(cells, j, b);
-        j += 1;
     }
 }
 
@@ -140,12 +137,16 @@ fn fill_line(cells: &mut Cells, k: u32, b: u32) {
 // Processor i gets block b, if it does not hold it.
 fn obtain(cells: &mut Cells, i: u32, b: u32) -> Cycles {
     if holds(cells, i, b) {
-        return cycles_of(0, 0, 0);
+        return NO_CYCLES;
     }
     let k = slot(i, b);
-    let written = vacate(cells, k);
+    let write_back = vacate(cells, k);
     fill_line(cells, k, b);
-    cycles_of(FETCH_PRICE, written, 0)
+    Cycles {
+        fetch: FETCH_PRICE,
+        write_back,
+        update: 0,
+    }
 }
 
 // The word of variable v in processor j's line becomes x, if it holds the block.
@@ -157,10 +158,8 @@ fn update_line(cells: &mut Cells, j: u32, v: u32, x: u32) {
 }
 
 fn update_lines(cells: &mut Cells, v: u32, x: u32) {
-    let mut j = 0;
-    while j < PROCESSORS {
+    for j in 0..PROCESSORS {
         update_line(cells, j, v, x);
-        j += 1;
     }
 }
 
@@ -180,21 +179,13 @@ fn write(cells: &mut Cells, i: u32, v: u32, x: u32) -> u32 {
     let paying = payer(cells, i, b);
     put(cells, COUNTERS, k, FETCH_PRICE);
     update_lines(cells, v, x);
-    if paying >= PROCESSORS {
+    let Some(j) = paying else {
         put(cells, MARKS, k, 1);
         return 0;
-    }
+    };
     put(cells, MEMORY, v, x);
-    pay(cells, slot(paying, b));
+    pay(cells, slot(j, b));
     1
-}
-
-fn cycles_of(fetch: u32, write_back: u32, update: u32) -> Cycles {
-    Cycles {
-        fetch: fetch,
-        write_back: write_back,
-        update: update,
-    }
 }
 
 // Serves a read or a write, which nothing refuses.
@@ -203,6 +194,8 @@ pub(crate) fn serve(cells: &mut Cells, i: u32, writes: bool, v: u32, x: u32) -> 
     if !writes {
         return moved;
     }
-    let update = write(cells, i, v, x);
-    cycles_of(moved.fetch, moved.write_back, update)
+    Cycles {
+        update: write(cells, i, v, x),
+        ..moved
+    }
 }

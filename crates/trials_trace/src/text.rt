@@ -1,6 +1,6 @@
 // Din traces: right lines, and now and then a wrong one, or one with an odd byte, which may be right or wrong.
 use crate::layout;
-use crate::layout::{BYTES, Lending, TABLES};
+use crate::layout::{BYTES, TABLES, Table, WrongLength};
 use crate::reading::CLEAR;
 use trials_cells::cells::{Cells, less, put, sum};
 use trials_cells::state::{between, draw};
@@ -34,36 +34,24 @@ fn put_byte(cells: &mut Cells, at: u32, x: u32) -> u32 {
 
 // The digit of 16^k of an address.
 fn nibble(address: u32, k: u32) -> u32 {
-    match k {
-        0 => address % 16,
-        1 => address / 16 % 16,
-        2 => address / 256 % 16,
-        3 => address / 4096 % 16,
-        4 => address / 65536 % 16,
-        5 => address / 1048576 % 16,
-        6 => address / 16777216 % 16,
-        7 => address / 268435456,
-        _ => 0,
-    }
+    if k < 8 { address >> (4 * k) & 15 } else { 0 }
 }
 
 // A hexadecimal digit, in lower or upper case.
 fn hex_digit(x: u32, upper: bool) -> u32 {
     if x < 10 {
-        return sum(DIGIT_0, x);
+        sum(DIGIT_0, x)
+    } else if upper {
+        sum(UPPER, x)
+    } else {
+        sum(LOWER, x)
     }
-    if upper {
-        return sum(UPPER, x);
-    }
-    sum(LOWER, x)
 }
 
 // The last `digits` digits of an address.
 fn put_address(cells: &mut Cells, from: u32, address: u32, digits: u32, upper: bool) -> u32 {
     let mut at = from;
-    let mut k = digits;
-    while k > 0 {
-        k -= 1;
+    for k in (0..digits).rev() {
         at = put_byte(cells, at, hex_digit(nibble(address, k), upper));
     }
     at
@@ -72,36 +60,27 @@ fn put_address(cells: &mut Cells, from: u32, address: u32, digits: u32, upper: b
 // n bytes of one kind.
 fn put_many(cells: &mut Cells, from: u32, x: u32, n: u32) -> u32 {
     let mut at = from;
-    let mut k = 0;
-    while k < n {
+    for _ in 0..n {
         at = put_byte(cells, at, x);
-        k += 1;
     }
     at
 }
 
-// What is wrong with a line; any other number is nothing. An odd byte may also happen to be right.
-const ODD_LABEL: u32 = 0;
-
-const LABEL: u32 = 1;
-
-const NO_BLANK: u32 = 2;
-
-const NINE_DIGITS: u32 = 3;
-
-const NO_DIGIT: u32 = 4;
-
-const ODD_END: u32 = 5;
-
-const PROCESSOR: u32 = 6;
-
-const VARIABLE: u32 = 7;
-
-const EMPTY: u32 = 8;
-
-const LONG: u32 = 9;
-
-const ODD_BLANK: u32 = 10;
+// What is wrong with a line. An odd byte may also happen to be right.
+#[derive(Clone, Copy, PartialEq, Eq)]
+enum Wrong {
+    OddLabel,
+    Label,
+    NoBlank,
+    NineDigits,
+    NoDigit,
+    OddEnd,
+    Processor,
+    Variable,
+    Empty,
+    Long,
+    OddBlank,
+}
 
 // An odd byte, to stand after a digit: any from the vertical tab to the tilde.
 fn pick_odd(cells: &mut Cells) -> u32 {
@@ -110,32 +89,24 @@ fn pick_odd(cells: &mut Cells) -> u32 {
 
 // A label: now and then that of a clear, and else 0, 1 or 2.
 fn known_label(roll: u32) -> u32 {
-    if roll == 0 {
-        return CLEAR;
-    }
-    roll % 3
+    if roll == 0 { CLEAR } else { roll % 3 }
 }
 
 // A digit that is no label: 3 for the clear's, or itself.
 fn unknown_label(high: u32) -> u32 {
-    if high == CLEAR {
-        return 3;
-    }
-    high
+    if high == CLEAR { 3 } else { high }
 }
 
 // The byte of a label.
-fn pick_label(cells: &mut Cells, wrong: u32) -> u32 {
+fn pick_label(cells: &mut Cells, wrong: Option<Wrong>) -> u32 {
     let roll = draw(cells, 13);
     let high = between(cells, CLEAR, 9);
     let odd = between(cells, 33, 126);
-    if wrong == ODD_LABEL {
-        return odd;
+    match wrong {
+        Some(Wrong::OddLabel) => odd,
+        Some(Wrong::Label) => sum(DIGIT_0, unknown_label(high)),
+        _ => sum(DIGIT_0, known_label(roll)),
     }
-    if wrong == LABEL {
-        return sum(DIGIT_0, unknown_label(high));
-    }
-    sum(DIGIT_0, known_label(roll))
 }
 
 // The address of a byte of variable v, of processor i.
@@ -144,7 +115,7 @@ fn address_of(i: u32, v: u32, low: u32) -> u32 {
 }
 
 // An address. The variable of a clear plays no part, and is out of range every second time.
-fn pick_address(cells: &mut Cells, wrong: u32, clears: bool) -> u32 {
+fn pick_address(cells: &mut Cells, wrong: Option<Wrong>, clears: bool) -> u32 {
     let i = draw(cells, 4);
     let v = draw(cells, 256);
     let near = draw(cells, 24);
@@ -152,85 +123,61 @@ fn pick_address(cells: &mut Cells, wrong: u32, clears: bool) -> u32 {
     let roll = draw(cells, 2);
     let other = between(cells, 4, 255);
     let past = between(cells, 256, 4194303);
-    if wrong == PROCESSOR {
-        return address_of(other, v, 0);
+    match wrong {
+        Some(Wrong::Processor) => address_of(other, v, 0),
+        Some(Wrong::Variable) => address_of(i, past, low),
+        _ if roll == 0 => address_of(i, near, low),
+        _ if clears => address_of(i, past, low),
+        _ => address_of(i, v, low),
     }
-    if wrong == VARIABLE {
-        return address_of(i, past, low);
-    }
-    if roll == 0 {
-        return address_of(i, near, low);
-    }
-    if clears {
-        return address_of(i, past, low);
-    }
-    address_of(i, v, low)
 }
 
 // How many digits an address is written with: it may have zeros in front. Before an odd byte it is any number of them, so that one digit
 // more is seldom too many.
-fn pick_digits(cells: &mut Cells, address: u32, wrong: u32) -> u32 {
+fn pick_digits(cells: &mut Cells, address: u32, wrong: Option<Wrong>) -> u32 {
     let short = between(cells, 1, 8);
     let middle = between(cells, 3, 8);
-    if wrong == NINE_DIGITS {
-        return 9;
+    match wrong {
+        Some(Wrong::NineDigits) => 9,
+        Some(Wrong::NoDigit) => 0,
+        Some(Wrong::OddEnd) => short,
+        _ if address < 16 => short,
+        _ if address < 4096 => middle,
+        _ => 8,
     }
-    if wrong == NO_DIGIT {
-        return 0;
-    }
-    if wrong == ODD_END {
-        return short;
-    }
-    if address < 16 {
-        return short;
-    }
-    if address < 4096 {
-        return middle;
-    }
-    8
 }
 
-// The byte after an address: a carriage return, the gap before ignored text, or an odd one; 0 if the line ends.
-fn gap_after(wrong: u32, roll: u32, odd: u32) -> u32 {
-    if wrong == ODD_END {
-        return odd;
-    }
-    if wrong == LONG {
-        return BLANK;
-    }
-    match roll {
-        0 | 3 => CARRIAGE_RETURN,
-        1 => BLANK,
-        2 => TAB,
-        _ => 0,
+// The byte after an address, unless the line ends: a carriage return, the gap before ignored text, or an odd one.
+fn gap_after(wrong: Option<Wrong>, roll: u32, odd: u32) -> Option<u32> {
+    match (wrong, roll) {
+        (Some(Wrong::OddEnd), _) => Some(odd),
+        (Some(Wrong::Long), _) | (_, 1) => Some(BLANK),
+        (_, 0 | 3) => Some(CARRIAGE_RETURN),
+        (_, 2) => Some(TAB),
+        _ => None,
     }
 }
 
 // How many bytes of ignored text follow it: n, or up to the end of a line of about 80 bytes.
-fn text_after(wrong: u32, roll: u32, n: u32, at: u32, end: u32) -> u32 {
-    if wrong == ODD_END {
-        return 0;
+fn text_after(wrong: Option<Wrong>, roll: u32, n: u32, at: u32, end: u32) -> u32 {
+    match wrong {
+        Some(Wrong::OddEnd) => 0,
+        Some(Wrong::Long) => less(end, sum(at, 1)),
+        _ if roll == 0 => 0,
+        _ => n,
     }
-    if wrong == LONG {
-        return less(end, sum(at, 1));
-    }
-    if roll == 0 {
-        return 0;
-    }
-    n
 }
 
 // What follows an address, in a line from `start` on.
-fn put_rest(cells: &mut Cells, start: u32, at: u32, wrong: u32) -> u32 {
+fn put_rest(cells: &mut Cells, start: u32, at: u32, wrong: Option<Wrong>) -> u32 {
     let roll = draw(cells, 10);
     let n = draw(cells, 12);
     let x = between(cells, 14, 255);
     let width = between(cells, 79, 82);
     let odd = pick_odd(cells);
-    let gap = gap_after(wrong, roll, odd);
-    if gap == 0 {
+    let Some(gap) = gap_after(wrong, roll, odd) else {
         return at;
-    }
+    };
     let text = text_after(wrong, roll, n, at, sum(start, width));
     put_text(cells, at, gap, x, text)
 }
@@ -242,22 +189,20 @@ fn put_text(cells: &mut Cells, at: u32, gap: u32, x: u32, n: u32) -> u32 {
 }
 
 // The first byte after a label: a blank, a tab once in a while, or an odd one.
-fn first_blank(wrong: u32, tab: u32, odd: u32) -> u32 {
-    if wrong == ODD_BLANK {
-        return odd;
+fn first_blank(wrong: Option<Wrong>, tab: u32, odd: u32) -> u32 {
+    match wrong {
+        Some(Wrong::OddBlank) => odd,
+        _ if tab == 0 => TAB,
+        _ => BLANK,
     }
-    if tab == 0 {
-        return TAB;
-    }
-    BLANK
 }
 
 // The blanks after a label.
-fn put_blanks(cells: &mut Cells, at: u32, wrong: u32) -> u32 {
+fn put_blanks(cells: &mut Cells, at: u32, wrong: Option<Wrong>) -> u32 {
     let n = between(cells, 1, 3);
     let tab = draw(cells, 4);
     let odd = pick_odd(cells);
-    if wrong == NO_BLANK {
+    if wrong == Some(Wrong::NoBlank) {
         return at;
     }
     put_text(cells, at, first_blank(wrong, tab, odd), BLANK, less(n, 1))
@@ -270,7 +215,7 @@ fn put_parts(
     label: u32,
     address: u32,
     digits: u32,
-    wrong: u32,
+    wrong: Option<Wrong>,
 ) -> u32 {
     let upper = draw(cells, 2) == 0;
     let blank = put_byte(cells, start, label);
@@ -280,25 +225,32 @@ fn put_parts(
 }
 
 // A line without its newline.
-fn put_line(cells: &mut Cells, start: u32, wrong: u32) -> u32 {
+fn put_line(cells: &mut Cells, start: u32, wrong: Option<Wrong>) -> u32 {
     let label = pick_label(cells, wrong);
     let clears = label == DIGIT_0 + CLEAR;
     let address = pick_address(cells, wrong, clears);
     let digits = pick_digits(cells, address, wrong);
-    if wrong == EMPTY {
+    if wrong == Some(Wrong::Empty) {
         return start;
     }
     put_parts(cells, start, label, address, digits, wrong)
 }
 
-// What is wrong with the next line. Odd bytes come up more often, since there are many of them.
-fn pick_wrong(cells: &mut Cells) -> u32 {
-    let roll = draw(cells, 400);
-    match roll {
-        11..=13 => ODD_END,
-        14..=16 => ODD_BLANK,
-        17..=18 => ODD_LABEL,
-        _ => roll,
+// What is wrong with the next line, if anything. Odd bytes come up more often, since there are many of them.
+fn pick_wrong(cells: &mut Cells) -> Option<Wrong> {
+    match draw(cells, 400) {
+        0 | 17..=18 => Some(Wrong::OddLabel),
+        1 => Some(Wrong::Label),
+        2 => Some(Wrong::NoBlank),
+        3 => Some(Wrong::NineDigits),
+        4 => Some(Wrong::NoDigit),
+        5 | 11..=13 => Some(Wrong::OddEnd),
+        6 => Some(Wrong::Processor),
+        7 => Some(Wrong::Variable),
+        8 => Some(Wrong::Empty),
+        9 => Some(Wrong::Long),
+        10 | 14..=16 => Some(Wrong::OddBlank),
+        _ => None,
     }
 }
 
@@ -311,10 +263,8 @@ fn put_whole_line(cells: &mut Cells, start: u32) -> u32 {
 // n lines: where they end.
 fn put_lines(cells: &mut Cells, n: u32) -> u32 {
     let mut at = 0;
-    let mut k = 0;
-    while k < n {
+    for _ in 0..n {
         at = put_whole_line(cells, at);
-        k += 1;
     }
     at
 }
@@ -324,34 +274,36 @@ pub(crate) fn put_trace(cells: &mut Cells) -> u32 {
     let lines = draw(cells, 90);
     let end = put_lines(cells, lines);
     let cut = draw(cells, 3);
-    if cut == 0 {
-        return less(end, 1);
-    }
-    end
+    if cut == 0 { less(end, 1) } else { end }
 }
 
 // The length of a table, one more or one less than it should be.
-fn wrong_length(table: u32, more: bool) -> u32 {
-    if more {
-        return sum(layout::right_length(table), 1);
-    }
-    less(layout::right_length(table), 1)
+fn wrong_length(table: Table, more: bool) -> u32 {
+    let right = layout::right_length(table);
+    if more { sum(right, 1) } else { less(right, 1) }
 }
 
-// The lengths at which tables are lent: once in 20 times one is wrong. The number drawn for it may name a sixth table, which
-// a trace does not have.
-pub(crate) fn pick_lending(cells: &mut Cells) -> Lending {
+fn table_of(number: u32) -> Option<Table> {
+    match number {
+        0 => Some(Table::Numbers),
+        1 => Some(Table::Counters),
+        2 => Some(Table::Marks),
+        3 => Some(Table::Words),
+        4 => Some(Table::Memory),
+        _ => None,
+    }
+}
+
+// Once in 20 times a table is lent at a wrong length. The number drawn for it may name a sixth table, which a trace does
+// not have.
+pub(crate) fn pick_wrong_length(cells: &mut Cells) -> Option<WrongLength> {
     let roll = draw(cells, 20);
-    let table = draw(cells, TABLES + 1);
+    let number = draw(cells, TABLES + 1);
     let more = draw(cells, 2) == 0;
     if roll != 0 {
-        return Lending {
-            table: TABLES,
-            length: 0,
-        };
+        return None;
     }
-    Lending {
-        table: table,
-        length: wrong_length(table, more),
-    }
+    let table = table_of(number)?;
+    let length = wrong_length(table, more);
+    Some(WrongLength { table, length })
 }
