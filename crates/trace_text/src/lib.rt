@@ -23,13 +23,9 @@ fn put(bytes: &[u8], out: &mut [u8; TEXT_WIDTH], at: usize) -> usize
     requires { at + length bytes.now ≤ text_width }
     ensures { Appended out.old at bytes.now out.new result (length bytes.now) }
 {
-    let all: &mut [u8] = out;
-    let mut i = 0;
-    while i < bytes.len() {
-        all[at + i] = bytes[i];
-        i += 1;
-    }
-    at + i
+    let end = at + bytes.len();
+    out[at..end].copy_from_slice(bytes);
+    end
 }
 
 // A number.

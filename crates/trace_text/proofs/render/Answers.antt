@@ -1,7 +1,5 @@
 -- The lines of the account and the last one, appended to an empty front (`then`, Copying): so the text fills the front of the buffer.
-use mathlib.Core.Path.{◌≡◌, sym, ap, ◌∙◌}
-use Rattle.trace_lines.specs.Trace.{report_numbers}
-use Rattle.trace_lines.specs.declared.ReportNumbers.{ReportNumbers}
+use mathlib.Core.Path.{sym, ap, ◌∙◌}
 use mathlib.Core.List.{[], ◌∷◌, append_assoc}
 use Prim.Native.Nat.{◌+◌}
 use lib.Dec.{lit≤}
