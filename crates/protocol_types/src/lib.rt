@@ -6,53 +6,6 @@ ghost use Rattle.protocol_types.specs.Board.{within, sizes_in_range, prices_in_r
 ghost use Rattle.protocol_types.specs.Refusals.{number, refusal_number, refusal_before};
 ghost use Rattle.protocol_types.specs.Conditions.{variable_refusal, named_refusal, request_refusal};
 
-// The refusal numbers.
-pub const NO_REFUSAL: u32 = 0;
-
-pub const SETUP_OUT_OF_RANGE: u32 = 1;
-
-pub const WRONG_LENGTH: u32 = 2;
-
-pub const NO_SUCH_PROCESSOR: u32 = 3;
-
-pub const NO_SUCH_VARIABLE: u32 = 4;
-
-pub const TOO_MANY: u32 = 5;
-
-pub const MALFORMED_LINE: u32 = 6;
-
-pub const UNKNOWN_LABEL: u32 = 7;
-
-pub const NO_SUCH_BLOCK: u32 = 8;
-
-pub const BROADCAST_WITHOUT_WRITE: u32 = 9;
-
-pub const PRICE_OUT_OF_RANGE: u32 = 10;
-
-pub const SEED_ZERO: u32 = 11;
-
-pub const NOT_SEARCHABLE: u32 = 12;
-
-pub const UNSOUND_TABLES: u32 = 20;
-
-pub const IMPOSSIBLE_ACCOUNT: u32 = 21;
-
-pub const ACCOUNT_FULL: u32 = 22;
-
-pub const LINE_IN_USE: u32 = 23;
-
-pub const BLOCK_NOT_HELD: u32 = 24;
-
-pub const DROP_OF_MARKED: u32 = 25;
-
-pub const NO_REQUEST_LEFT: u32 = 26;
-
-pub const COMPLETION_NOT_HELD: u32 = 27;
-
-pub const REQUESTS_LEFT: u32 = 28;
-
-pub const CACHE_NOT_EMPTY: u32 = 29;
-
 // Why something is refused. Each refusal's number is the documents'.
 #[derive(Clone, Copy, PartialEq, Eq)]
 pub enum Refusal {
@@ -146,20 +99,6 @@ impl Setup {
     {
         is_within(PRICE_LIMIT, self.fetch_price)
             && is_within(self.fetch_price, self.write_back_price)
-    }
-
-    // The refusal number of the setup, or 0: 1, 10 in this order.
-    #[tactic(auto, unfolding(crate::specs::Board::setup_refusal))]
-    pub fn refusal(self) -> u32
-        ensures { result ≡ setup_refusal self }
-    {
-        if !self.sizes_in_range() {
-            return SETUP_OUT_OF_RANGE;
-        }
-        if !self.prices_in_range() {
-            return PRICE_OUT_OF_RANGE;
-        }
-        NO_REFUSAL
     }
 
     // Whether the setup is refused: 1, 10 in this order.
@@ -273,31 +212,6 @@ impl Setup {
         self.blocks * self.words
     }
 
-    // 4 if the variable is not below M × p, else `next`.
-    #[tactic(auto, unfolding(crate::specs::Conditions::variable_refusal))]
-    fn variable_refusal(self, variable: Variable, next: u32) -> u32
-        requires { Fits self }
-        ensures { result ≡ variable_refusal self variable next }
-    {
-        let limit = self.variable_count();
-        if variable.0 < limit {
-            return next;
-        }
-        NO_SUCH_VARIABLE
-    }
-
-    // 4 if the operation names a variable that is not below M × p, else `next`.
-    pub fn named_refusal(self, operation: Operation, next: u32) -> u32
-        requires { Fits self }
-        ensures { result ≡ named_refusal self operation next }
-    {
-        match operation {
-            Operation::Read(v) => self.variable_refusal(v, next),
-            Operation::Write(v, _) => self.variable_refusal(v, next),
-            Operation::Clear => next,
-        }
-    }
-
     // Whether a variable is refused: 4 if it is not below M × p.
     #[tactic(auto, unfolding(crate::specs::Conditions::variable_refusal))]
     fn check_variable(self, variable: Variable) -> Result<(), Refusal>
@@ -337,22 +251,6 @@ impl Setup {
             return Err(Refusal::AccountFull);
         }
         Ok(())
-    }
-
-    // The refusal number of a request where `taken` were taken before, or 0: 3, 4, 22 in this order.
-    #[tactic(auto, unfolding(crate::specs::Conditions::request_refusal))]
-    pub fn request_refusal(self, taken: u32, request: Request) -> u32
-        requires { Fits self }
-        ensures { result ≡ request_refusal self taken request }
-    {
-        if request.processor >= self.processors {
-            return NO_SUCH_PROCESSOR;
-        }
-        let operation = request.operation;
-        if taken < REQUEST_LIMIT {
-            return self.named_refusal(operation, NO_REFUSAL);
-        }
-        self.named_refusal(operation, ACCOUNT_FULL)
     }
 }
 
