@@ -1,6 +1,6 @@
 -- A row starts at its index of word 0, lies within the words, and comes back as the other (part-copied).
 use Prim.Native.Nat.{◌*◌}
-use mathlib.Core.Path.{◌∙◌}
+use Rattle.std.proofs.Common.{rules}
 use native.Mathlib.Nat.{add-zero}
 use native.Mathlib.Omega.{arith}
 use Rattle.protocol_types.specs.Board.{word_index}
@@ -13,4 +13,4 @@ returns c =
     let a = c.args in
     let n = a.setup.words in
     simp add-zero
-    (part-copied a.to.now c.copy_from_slice.new.self a.from.now (a.into * n) (a.row * n) n (omega arith) (omega arith) (c.copy_from_slice.ensures.after ∙ c.row_of.ensures ∙ simp add-zero))
+    (part-copied a.to.now _ a.from.now (a.into * n) (a.row * n) n (omega arith) (omega arith) (search (rules, add-zero)))
