@@ -22,21 +22,21 @@ each : (f : ℕ → ℕ → Bool) → all 256 (λ m. all 8 (f m)) ≡ true → (
 each f e m i l h = all_true 8 (f m) (all_true 256 (λ m. all 8 (f m)) e m l) i h
 
 module _ (m : ℕ) (byte : m < 256) where
-  pub with-is : (i : ℕ) → i < 8 → bit_or m (2 ^ i) ≡ with_bit m i
+  pub with_is : (i : ℕ) → i < 8 → bit_or m (2 ^ i) ≡ with_bit m i
   unfolding with_bit bit_at
-  with-is i h = eqb-true _ _ (each (λ m i. eqb (bit_or m (2 ^ i)) (with_bit m i)) refl m i byte h)
+  with_is i h = eqb-true _ _ (each (λ m i. eqb (bit_or m (2 ^ i)) (with_bit m i)) refl m i byte h)
 
   pub without_is : (i : ℕ) → i < 8 → bit_and m (2 ^ 8 - 1 - 2 ^ i) ≡ without_bit m i
   unfolding without_bit bit_at
   without_is i h = eqb-true _ _ (each (λ m i. eqb (bit_and m (2 ^ 8 - 1 - 2 ^ i)) (without_bit m i)) refl m i byte h)
 
-  pub lowest-is : count_trailing_zeros 8 m ≡ first 8 (bit_at m)
+  pub lowest_is : count_trailing_zeros 8 m ≡ first 8 (bit_at m)
   unfolding count_trailing_zeros first bit_at
-  lowest-is = eqb-true _ _ (all_true 256 (λ m. eqb (count_trailing_zeros 8 m) (first 8 (bit_at m))) refl m byte)
+  lowest_is = eqb-true _ _ (all_true 256 (λ m. eqb (count_trailing_zeros 8 m) (first 8 (bit_at m))) refl m byte)
 
-  pub without-lowest-is : bit_and m (m - 1) ≡ without_lowest m
+  pub without_lowest_is : bit_and m (m - 1) ≡ without_lowest m
   unfolding without_lowest without_bit first bit_at
-  without-lowest-is = eqb-true _ _ (all_true 256 (λ m. eqb (bit_and m (m - 1)) (without_lowest m)) refl m byte)
+  without_lowest_is = eqb-true _ _ (all_true 256 (λ m. eqb (bit_and m (m - 1)) (without_lowest m)) refl m byte)
 
 -- ---- the lowest set bit
 

@@ -15,6 +15,7 @@ pub fn bit(i: u8) -> u8
 }
 
 // The byte with bit i set.
+#[tactic(auto, using(crate::proofs::Bytes::with_is))]
 pub fn with_bit(mask: u8, i: u8) -> u8
     requires { i < 8 }
     ensures { result ≡ with_bit mask i }
@@ -23,6 +24,7 @@ pub fn with_bit(mask: u8, i: u8) -> u8
 }
 
 // The byte with bit i clear.
+#[tactic(auto, using(crate::proofs::Bytes::without_is))]
 pub fn without_bit(mask: u8, i: u8) -> u8
     requires { i < 8 }
     ensures { result ≡ without_bit mask i }
@@ -31,6 +33,7 @@ pub fn without_bit(mask: u8, i: u8) -> u8
 }
 
 // The lowest set bit.
+#[tactic(auto, using(crate::proofs::Bytes::lowest_is))]
 pub fn lowest(mask: u8) -> Option<u8>
     ensures value { unwrap_or result 8 ≡ first 8 (bit_at mask) }
     ensures some { MatchOption result (mask ≡ 0) (λ _. 0 < mask) }
@@ -42,6 +45,7 @@ pub fn lowest(mask: u8) -> Option<u8>
 }
 
 // The byte without its lowest set bit.
+#[tactic(auto, using(crate::proofs::Bytes::without_lowest_is))]
 pub fn without_lowest(mask: u8) -> u8
     requires { 0 < mask }
     ensures { result ≡ without_lowest mask }
