@@ -30,12 +30,12 @@ whole-sets xs ys a n h e =
     rw (drop-drop n a xs, sets-eq ys xs a r, e, append_assoc)
 
 -- a part that was cleared
-pub part-cleared : (xs ys : List ℕ) (a n : ℕ) → a + n ≤ length xs → ys ≡ zeros (length (part xs a (a + n - a))) → whole xs a (a + n - a) ys ≡ sets xs a (zeros n)
-part-cleared xs ys a n h e = rw (e, add-sub_cancel_left a n, part_length xs a n h) (whole-sets xs (zeros n) a n h (length-replicate n 0))
+pub part_cleared : (xs ys : List ℕ) (a n : ℕ) → a + n ≤ length xs → ys ≡ zeros (length (part xs a (a + n - a))) → whole xs a (a + n - a) ys ≡ sets xs a (zeros n)
+part_cleared xs ys a n h e = rw (e, add-sub_cancel_left a n, part_length xs a n h) (whole-sets xs (zeros n) a n h (length-replicate n 0))
 
 -- a part that took the n elements of another list from index b
-pub part-copied : (xs ys from : List ℕ) (a b n : ℕ) → a + n ≤ length xs → b + n ≤ length from → ys ≡ part from b n → whole xs a (a + n - a) ys ≡ sets xs a (part from b n)
-part-copied xs ys from a b n h k e = rw (e, add-sub_cancel_left a n) (whole-sets xs (part from b n) a n h (part_length from b n k))
+pub part_copied : (xs ys from : List ℕ) (a b n : ℕ) → a + n ≤ length xs → b + n ≤ length from → ys ≡ part from b n → whole xs a (a + n - a) ys ≡ sets xs a (part from b n)
+part_copied xs ys from a b n h k e = rw (e, add-sub_cancel_left a n) (whole-sets xs (part from b n) a n h (part_length from b n k))
 
 -- element o of a part
 at-part : (xs : List ℕ) (a n o : ℕ) → o < n → at (part xs a n) o ≡ at xs (a + o)
@@ -95,12 +95,12 @@ pointwise-is p (x ∷ xs) [] e = absurd (omega arith)
 pointwise-is p (x ∷ xs) (y ∷ ys) e =
     ap (λ b. p x y && b) (pointwise-is p xs ys (omega arith)) ∙ sym (all-front (λ o. p (at (x ∷ xs) o) (at (y ∷ ys) o)) (length xs))
 
-pub part-tested : (p : ℕ → Bool) (xs : List ℕ) (a n : ℕ) → a + n ≤ length xs → list_all p (part xs a n) ≡ all n (λ o. p (at xs (a + o)))
-part-tested p xs a n h =
+pub part_tested : (p : ℕ → Bool) (xs : List ℕ) (a n : ℕ) → a + n ≤ length xs → list_all p (part xs a n) ≡ all n (λ o. p (at xs (a + o)))
+part_tested p xs a n h =
     list_all-is p (part xs a n) ∙ rw (part_length xs a n h) (all-same (λ o. p (at (part xs a n) o)) (λ o. p (at xs (a + o))) n (λ o l. ap p (at-part xs a n o l)))
 
-pub parts-tested : (p : ℕ → ℕ → Bool) (xs ys : List ℕ) (a b n : ℕ) → a + n ≤ length xs → b + n ≤ length ys
+pub parts_tested : (p : ℕ → ℕ → Bool) (xs ys : List ℕ) (a b n : ℕ) → a + n ≤ length xs → b + n ≤ length ys
     → pointwise p (part xs a n) (part ys b n) ≡ all n (λ o. p (at xs (a + o)) (at ys (b + o)))
-parts-tested p xs ys a b n h k =
+parts_tested p xs ys a b n h k =
     pointwise-is p (part xs a n) (part ys b n) (part_length ys b n k ∙ sym (part_length xs a n h))
     ∙ rw (part_length xs a n h) (all-same (λ o. p (at (part xs a n) o) (at (part ys b n) o)) (λ o. p (at xs (a + o)) (at ys (b + o))) n (λ o l. rw (at-part xs a n o l, at-part ys b n o l)))

@@ -38,6 +38,7 @@ pub fn set_word(setup: Setup, row: usize, offset: u32, value: u32, words: &mut [
 }
 
 // The words of a row become 0.
+#[tactic(auto, using(crate::proofs::Laws::part_cleared), unfolding(protocol_types::specs::Board::word_index))]
 pub fn clear_row(setup: Setup, row: usize, words: &mut [u32])
     requires { word_index setup row 0 + setup.words ≤ length words.old }
     ensures { words.new ≡ sets words.old (word_index setup row 0) (zeros setup.words) }
@@ -65,6 +66,7 @@ fn all_zero(words: &[u32]) -> bool
 }
 
 // Whether the words of a row are 0.
+#[tactic(auto, using(crate::proofs::Laws::part_tested), unfolding(protocol_types::specs::Board::word_index))]
 pub fn zero_row(setup: Setup, row: usize, words: &[u32]) -> bool
     requires { word_index setup row 0 + setup.words ≤ length words.now }
     ensures { result ≡ all setup.words (λ o. eqb (at words.now (word_index setup row o)) 0) }
@@ -73,6 +75,7 @@ pub fn zero_row(setup: Setup, row: usize, words: &[u32]) -> bool
 }
 
 // Whether the words of row `i` of x are those of row `j` of y.
+#[tactic(auto, using(crate::proofs::Laws::parts_tested), unfolding(protocol_types::specs::Board::word_index))]
 pub fn same_row(setup: Setup, x: &[u32], i: usize, y: &[u32], j: usize) -> bool
     requires { (word_index setup i 0 + setup.words ≤ length x.now) × (word_index setup j 0 + setup.words ≤ length y.now) }
     ensures { result ≡ all setup.words (λ o. eqb (at x.now (word_index setup i o)) (at y.now (word_index setup j o))) }
