@@ -29,6 +29,7 @@ pub fn lose(block: Block, i: u32, masks: &mut [u8])
 }
 
 // Processor i has no copy any more of the block at slot k, if it had one there.
+#[tactic(auto, unfolding(crate::specs::Copies::lost_at))]
 pub fn lose_at(i: u32, k: usize, blocks: &[u32], counters: &[u32], masks: &mut [u8])
     requires i_bound { i < 8 }
     requires k_in_bounds { (k < length blocks.now) × (k < length counters.now) × (at blocks.now k < length masks.old) }
