@@ -13,7 +13,6 @@ use std::io::Read;
 use trace::BLOCKS;
 use trace_count::Count;
 use trace_lines::Report;
-use trace_text::TEXT_WIDTH;
 
 // The lengths of the tables of the setup.
 const SLOTS: usize = 32;
@@ -121,9 +120,8 @@ fn tell<R: Print + Eprint>(rt: &R, answer: Result<Report, ReadFailed<Report>>) -
         let _ = rt.eprintln("buscount: standard input could not be read.");
         return false;
     };
-    let mut text = [0u8; TEXT_WIDTH];
-    let length = trace_text::render(report, &mut text);
-    if rt.write_all(&text[..length]).is_ok() {
+    let text = trace_text::render(report);
+    if rt.write_all(text.written()).is_ok() {
         return true;
     }
     let _ = rt.eprintln("buscount: the report could not be written.");

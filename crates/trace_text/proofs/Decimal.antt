@@ -52,9 +52,9 @@ decimal-fewest : (n : ℕ) → n < 2 ^ 64 → IsDigitCount 10 1 n (places 19 n)
 decimal-fewest n h = places-fewest 19 n (below n h)
 
 -- what `digits::decimal` writes
-pub decimal-is : (n k : ℕ) (out : List ℕ) → n < 2 ^ 64 → IsDigitCount 10 1 n k → take k out ≡ last_digits 10 k n → take k out ≡ decimal n
+pub decimal_is : (n k : ℕ) (out : List ℕ) → n < 2 ^ 64 → IsDigitCount 10 1 n k → take k out ≡ last_digits 10 k n → take k out ≡ decimal n
 unfolding decimal
-decimal-is n k out h f e = e ∙ ap (λ (j : ℕ). last_digits 10 j n) (only-fewest n k (places 19 n) f (decimal-fewest n h))
+decimal_is n k out h f e = e ∙ ap (λ (j : ℕ). last_digits 10 j n) (only-fewest n k (places 19 n) f (decimal-fewest n h))
 
 places-most : (k n : ℕ) → places k n ≤ suc k
 places-most zero n = omega arith

@@ -1,5 +1,5 @@
 -- The bytes that the trace program prints of a report (document 01, "The trace program").
-use Rattle.std.specs.Prelude.{ℕ, zero, suc, ◌+◌, ◌-◌, ◌*◌, ◌/◌, ◌≤◌, ◌≡◌, cond, List, [], ◌∷◌, ◌++◌, ltb, length, take}
+use Rattle.std.specs.Prelude.{ℕ, zero, suc, ◌+◌, ◌-◌, ◌*◌, ◌/◌, cond, List, [], ◌∷◌, ◌++◌, ltb, length}
 use Rattle.trace_text.specs.Digits.{last_digits}
 use Rattle.protocol.specs.Accounts.{cycles_of}
 use Rattle.protocol_types.specs.declared.Account.{Account}
@@ -89,14 +89,6 @@ line_width word = field_width word + 1
 abbrev pub account_width : ℕ
 account_width = line_width requests_word + line_width fetch_word + line_width write_back_word + line_width update_word + line_width total_word
 
--- the buffer that a report is written into
+-- what a report's buffer holds
 abbrev pub text_width : ℕ
 text_width = account_width + (field_width ended_word + line_width [])
-
--- ---- appending to a buffer
-
--- the first n bytes of the old buffer and then s, of at most `most` bytes, are the first r bytes of the new one
-pub record Appended (old : List ℕ) (n : ℕ) (s : List ℕ) (new : List ℕ) (r most : ℕ) : Type 0 where
-  pub room : r ≤ n + most
-  pub inside : r ≤ length new
-  pub is : take r new ≡ take n old ++ s

@@ -1,60 +1,115 @@
-// The text of a report, written into a lent buffer.
+// The text of a report, written into a buffer.
 #![tactic(auto)]
 
-ghost use Rattle.std.specs.Prelude.{◌≡◌, ◌+◌, ◌≤◌, length, take};
-ghost use Rattle.trace_text.specs.Digits.{IsPrefixLen};
+ghost use Rattle.std.specs.Prelude.{◌≡◌, ◌+◌, ◌≤◌, ◌++◌, [], length};
 ghost use Rattle.protocol.specs.Accounts.{cycles_of};
 ghost use Rattle.trace_lines.specs.Trace.{report_numbers};
-ghost use Rattle.trace_text.specs.Text.{number_width, decimal, field, line, account_lines, text, field_width, line_width, account_width, text_width, Appended};
+ghost use Rattle.trace_text.specs.Text.{number_width, decimal, field, line, account_lines, text, field_width, line_width, account_width, text_width};
 
 mod digits;
 
 use protocol_types::Account;
+use std::marker::Model;
 use trace_lines::Report;
 
 // The most bytes that a report is: 20 digits to a number.
-pub const TEXT_WIDTH: usize = 192;
+const TEXT_WIDTH: usize = 192;
 
 // The most digits of a number.
 const NUMBER_WIDTH: usize = 20;
 
-// Puts bytes into the buffer from `at` on, and answers where they end.
-fn put(bytes: &[u8], out: &mut [u8; TEXT_WIDTH], at: usize) -> usize
-    requires { at + length bytes.now ≤ text_width }
-    ensures { Appended out.old at bytes.now out.new result (length bytes.now) }
-{
-    let end = at + bytes.len();
-    out[at..end].copy_from_slice(bytes);
-    end
+// A text that is written from its start on. Clauses see the bytes written so far.
+#[derive(Drop)]
+pub struct TextBuffer {
+    bytes: [u8; TEXT_WIDTH],
+    length: usize,
 }
 
-// A number.
-fn put_number(number: u64, out: &mut [u8; TEXT_WIDTH], at: usize) -> usize
-    requires { at + number_width ≤ text_width }
-    ensures { Appended out.old at (decimal number) out.new result number_width }
-{
-    let mut digits = [0u8; NUMBER_WIDTH];
-    let count = digits::decimal(number, &mut digits);
-    put(&digits[..count], out, at)
+impl Model for TextBuffer {
+    ghost use Rattle.std.specs.Prelude.{◌≤◌, ℕ, List, take};
+    ghost use Rattle.trace_text.specs.Text.{text_width};
+
+    ghost Value = { List ℕ };
+
+    ghost view = { λ b. take b.length b.bytes };
+
+    ghost invariant = { λ b. b.length ≤ text_width };
 }
 
-// A word and a number.
-fn put_field(word: &[u8], number: u64, out: &mut [u8; TEXT_WIDTH], at: usize) -> usize
-    requires { at + field_width word.now ≤ text_width }
-    ensures { Appended out.old at (field word.now number) out.new result (field_width word.now) }
-{
-    let named = put(word, out, at);
-    let parted = put(b" ", out, named);
-    put_number(number, out, parted)
-}
+impl TextBuffer {
+    fn new() -> Self
+        ensures { result ≡ [] }
+    {
+        TextBuffer {
+            bytes: [0; TEXT_WIDTH],
+            length: 0,
+        }
+    }
 
-// A line of a word and a number.
-fn put_line(word: &[u8], number: u64, out: &mut [u8; TEXT_WIDTH], at: usize) -> usize
-    requires { at + line_width word.now ≤ text_width }
-    ensures { Appended out.old at (line word.now number) out.new result (line_width word.now) }
-{
-    let end = put_field(word, number, out, at);
-    put(b"\n", out, end)
+    // The bytes written so far.
+    pub fn written(&self) -> &[u8]
+        ensures { result.now ≡ self.now }
+    {
+        &self.bytes[..self.length]
+    }
+
+    // Appends bytes.
+    fn put(&mut self, bytes: &[u8])
+        requires { length self.old + length bytes.now ≤ text_width }
+        ensures { self.new ≡ self.old ++ bytes.now }
+    {
+        let end = self.length + bytes.len();
+        self.bytes[self.length..end].copy_from_slice(bytes);
+        self.length = end;
+    }
+
+    // A number.
+    #[tactic(auto, using(crate::proofs::Decimal::decimal_is))]
+    fn put_number(&mut self, number: u64)
+        requires { length self.old + number_width ≤ text_width }
+        ensures appended { self.new ≡ self.old ++ decimal number }
+        ensures room { length self.new ≤ length self.old + number_width }
+    {
+        let mut digits = [0u8; NUMBER_WIDTH];
+        let count = digits::decimal(number, &mut digits);
+        self.put(&digits[..count]);
+    }
+
+    // A word and a number.
+    #[tactic(auto, unfolding(crate::specs::Text::field))]
+    fn put_field(&mut self, word: &[u8], number: u64)
+        requires { length self.old + field_width word.now ≤ text_width }
+        ensures appended { self.new ≡ self.old ++ field word.now number }
+        ensures room { length self.new ≤ length self.old + field_width word.now }
+    {
+        self.put(word);
+        self.put(b" ");
+        self.put_number(number);
+    }
+
+    // A line of a word and a number.
+    #[tactic(auto, unfolding(crate::specs::Text::line))]
+    fn put_line(&mut self, word: &[u8], number: u64)
+        requires { length self.old + line_width word.now ≤ text_width }
+        ensures appended { self.new ≡ self.old ++ line word.now number }
+        ensures room { length self.new ≤ length self.old + line_width word.now }
+    {
+        self.put_field(word, number);
+        self.put(b"\n");
+    }
+
+    // The five lines of an account.
+    fn put_account(&mut self, account: Account)
+        requires { length self.old + account_width ≤ text_width }
+        ensures appended { self.new ≡ self.old ++ account_lines account }
+        ensures room { length self.new ≤ length self.old + account_width }
+    {
+        self.put_line(b"requests", account.requests as u64);
+        self.put_line(b"fetch", account.fetch as u64);
+        self.put_line(b"write-back", account.write_back as u64);
+        self.put_line(b"update", account.update as u64);
+        self.put_line(b"total", cycles(account));
+    }
 }
 
 // The cycles of each kind, summed where the sum of three u32 fits.
@@ -64,24 +119,14 @@ fn cycles(account: Account) -> u64
     account.fetch as u64 + account.write_back as u64 + account.update as u64
 }
 
-// The five lines of an account, from the start.
-fn put_account(account: Account, out: &mut [u8; TEXT_WIDTH]) -> usize
-    ensures { Appended out.old 0 (account_lines account) out.new result account_width }
-{
-    let requests = put_line(b"requests", account.requests as u64, out, 0);
-    let fetch = put_line(b"fetch", account.fetch as u64, out, requests);
-    let write_back = put_line(b"write-back", account.write_back as u64, out, fetch);
-    let update = put_line(b"update", account.update as u64, out, write_back);
-    put_line(b"total", cycles(account), out, update)
-}
-
-// Writes the six lines at the start of the buffer, and answers how many bytes they are.
-pub fn render(report: Report, out: &mut [u8; TEXT_WIDTH]) -> usize
-    ensures prefix_len { IsPrefixLen result out.new }
-    ensures out_after { take result out.new ≡ text (report_numbers report) }
+// The six lines of a report.
+pub fn render(report: Report) -> TextBuffer
+    ensures { result ≡ text (report_numbers report) }
 {
     let numbers = report.numbers();
-    let total = put_account(numbers.account, out);
-    let ended = put_field(b"ended", numbers.refusal as u64, out, total);
-    put_line(b"", numbers.line as u64, out, ended)
+    let mut text = TextBuffer::new();
+    text.put_account(numbers.account);
+    text.put_field(b"ended", numbers.refusal as u64);
+    text.put_line(b"", numbers.line as u64);
+    text
 }
