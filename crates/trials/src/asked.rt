@@ -1,7 +1,5 @@
 // The entries, called over the real tables: each table is copied to an array of its own, the masks to one of bytes, a part
 // of which, as long as the case wants it, is lent, and then copied back. Lists are lent in the same way.
-ghost use Rattle.std.specs.Prelude.{◌≤◌, length};
-
 use crate::layout::{ENTRIES, REAL, REQUESTS};
 use crate::{lent, setups};
 use protocol_types::{Account, Block, PlacedRefusal, Refusal, Setup};
@@ -9,16 +7,14 @@ use trials_cells::cells::{Cells, get, put, sum};
 use trials_cells::state::Kind;
 
 // Room for the longest table.
-pub const ROOM: usize = 8200;
+const ROOM: usize = 8200;
 
-pub type Table = [u32; ROOM];
+type Table = [u32; ROOM];
 
 // Room for the most masks and a few more.
 const MASK_ROOM: usize = 264;
 
-pub type Masks = [u8; MASK_ROOM];
-
-const REAL_MASKS: u32 = REAL + lent::MASKS;
+type Masks = [u8; MASK_ROOM];
 
 // What an entry answered, or the model; 0 and a fresh account stand where a kind has no such part.
 #[derive(Clone, Copy)]
@@ -66,159 +62,160 @@ pub(crate) fn refusal_number(refused: Option<PlacedRefusal>) -> u32 {
     }
 }
 
-// n, or the room where n is more.
-fn within_room(n: u32) -> usize
-    ensures { result ≤ 8200 }
-{
-    ROOM.min(n as usize)
+// An element of a lent table: a number, or the byte of a mask.
+trait Element: Copy {
+    fn from_cell(x: u32) -> Self;
+
+    fn to_cell(self) -> u32;
 }
 
-fn set(table: &mut [u32], k: u32, x: u32) {
-    if let Some(cell) = table.get_mut(k as usize) {
-        *cell = x;
+impl Element for u32 {
+    fn from_cell(x: u32) -> u32 {
+        x
+    }
+
+    fn to_cell(self) -> u32 {
+        self
     }
 }
 
-fn element(table: &Table, k: u32) -> u32 {
-    table.get(k as usize).copied().unwrap_or(0)
+impl Element for u8 {
+    fn from_cell(x: u32) -> u8 {
+        (x % 256) as u8
+    }
+
+    fn to_cell(self) -> u32 {
+        u32::from(self)
+    }
+}
+
+fn set<T: Element>(table: &mut [T], k: u32, x: u32) {
+    if let Some(element) = table.get_mut(k as usize) {
+        *element = T::from_cell(x);
+    }
+}
+
+fn number_at<T: Element>(table: &[T], k: u32) -> u32 {
+    match table.get(k as usize) {
+        Some(element) => element.to_cell(),
+        None => 0,
+    }
 }
 
 // The n cells from `first` on go to an array.
-fn fill(cells: &Cells, first: u32, n: u32, to: &mut [u32]) {
+fn fill<T: Element>(cells: &Cells, first: u32, n: u32, to: &mut [T]) {
     for k in 0..n {
         set(to, k, get(cells, first, k));
     }
 }
 
-// The n numbers of a list go to an array: how many of them are lent.
-fn lend(cells: &Cells, first: u32, n: u32, to: &mut Table) -> usize
-    ensures { result ≤ length to.new }
-{
-    fill(cells, first, n, to);
-    within_room(n)
-}
-
-// A table goes to an array: how much of it is lent.
-fn lend_table(cells: &Cells, table: u32, to: &mut Table) -> usize
-    ensures { result ≤ length to.new }
-{
+// A table goes to an array.
+fn fill_table<T: Element>(cells: &Cells, table: u32, to: &mut [T]) {
     let first = sum(REAL, lent::table_place(table));
-    lend(cells, first, lent::length(cells, table), to)
+    fill(cells, first, lent::length(cells, table), to);
 }
 
 // A table comes back from its array.
-fn back(cells: &mut Cells, table: u32, from: &Table) {
+fn back<T: Element>(cells: &mut Cells, table: u32, from: &[T]) {
     let n = lent::length(cells, table);
     let first = sum(REAL, lent::table_place(table));
     for k in 0..n {
-        put(cells, first, k, element(from, k));
+        put(cells, first, k, number_at(from, k));
     }
 }
 
-fn set_mask(masks: &mut [u8], k: u32, x: u32) {
-    if let Some(mask) = masks.get_mut(k as usize) {
-        *mask = (x % 256) as u8;
+// The first n elements of an array, or all where n is more, are lent.
+fn lend<T: Element>(room: &mut [T], n: u32) -> &mut [T] {
+    let n = room.len().min(n as usize);
+    &mut room[..n]
+}
+
+// As much of a table is lent as the case wants.
+fn lend_table<'a, T: Element>(cells: &Cells, table: u32, room: &'a mut [T]) -> &'a mut [T] {
+    lend(room, lent::length(cells, table))
+}
+
+// A list of n numbers is lent.
+fn lend_list<'a>(cells: &Cells, first: u32, n: u32, room: &'a mut Table) -> &'a [u32] {
+    fill(cells, first, n, room);
+    lend(room, n)
+}
+
+// The tables, copied to arrays.
+#[derive(Drop)]
+struct Tables {
+    blocks: Table,
+    counters: Table,
+    marks: Table,
+    words: Table,
+    memory: Table,
+    masks: Masks,
+    values: Table,
+}
+
+impl Tables {
+    fn of(cells: &Cells) -> Tables {
+        let mut tables = Tables {
+            blocks: [0; ROOM],
+            counters: [0; ROOM],
+            marks: [0; ROOM],
+            words: [0; ROOM],
+            memory: [0; ROOM],
+            masks: [0; MASK_ROOM],
+            values: [0; ROOM],
+        };
+        fill_table(cells, lent::NUMBERS_TABLE, &mut tables.blocks);
+        fill_table(cells, lent::COUNTERS_TABLE, &mut tables.counters);
+        fill_table(cells, lent::MARKS_TABLE, &mut tables.marks);
+        fill_table(cells, lent::WORDS_TABLE, &mut tables.words);
+        fill_table(cells, lent::MEMORY_TABLE, &mut tables.memory);
+        fill_table(cells, lent::MASKS_TABLE, &mut tables.masks);
+        fill_table(cells, lent::VALUES_TABLE, &mut tables.values);
+        tables
     }
-}
 
-fn mask_at(masks: &Masks, k: u32) -> u32 {
-    u32::from(masks.get(k as usize).copied().unwrap_or(0))
-}
-
-// The n masks go to an array.
-fn fill_masks(cells: &Cells, n: u32, to: &mut [u8]) {
-    for k in 0..n {
-        set_mask(to, k, get(cells, REAL_MASKS, k));
-    }
-}
-
-// The masks go to an array: how many of them are lent.
-fn lend_masks(cells: &Cells, to: &mut Masks) -> usize
-    ensures { result ≤ length to.new }
-{
-    let n = lent::length(cells, lent::MASKS_TABLE);
-    fill_masks(cells, n, to);
-    MASK_ROOM.min(n as usize)
-}
-
-// The masks come back from their array.
-fn masks_back(cells: &mut Cells, from: &Masks) {
-    let n = lent::length(cells, lent::MASKS_TABLE);
-    for k in 0..n {
-        put(cells, REAL_MASKS, k, mask_at(from, k));
+    fn put_back(&self, cells: &mut Cells) {
+        back(cells, lent::NUMBERS_TABLE, &self.blocks);
+        back(cells, lent::COUNTERS_TABLE, &self.counters);
+        back(cells, lent::MARKS_TABLE, &self.marks);
+        back(cells, lent::WORDS_TABLE, &self.words);
+        back(cells, lent::MEMORY_TABLE, &self.memory);
+        back(cells, lent::MASKS_TABLE, &self.masks);
+        back(cells, lent::VALUES_TABLE, &self.values);
     }
 }
 
 fn start(cells: &mut Cells, setup: Setup) -> Result<(), Refusal> {
-    let view: &Cells = cells;
-    let mut blocks = [0u32; ROOM];
-    let mut counters = [0u32; ROOM];
-    let mut marks = [0u32; ROOM];
-    let mut words = [0u32; ROOM];
-    let mut memory = [0u32; ROOM];
-    let mut masks = [0u8; MASK_ROOM];
-    let a = lend_table(view, lent::NUMBERS_TABLE, &mut blocks);
-    let b = lend_table(view, lent::COUNTERS_TABLE, &mut counters);
-    let c = lend_table(view, lent::MARKS_TABLE, &mut marks);
-    let d = lend_table(view, lent::WORDS_TABLE, &mut words);
-    let e = lend_table(view, lent::MEMORY_TABLE, &mut memory);
-    let f = lend_masks(view, &mut masks);
+    let mut tables = Tables::of(cells);
     let started = engine_tables::start(
         setup,
-        &mut blocks[..a],
-        &mut counters[..b],
-        &mut marks[..c],
-        &mut words[..d],
-        &mut memory[..e],
-        &mut masks[..f],
+        lend_table(cells, lent::NUMBERS_TABLE, &mut tables.blocks),
+        lend_table(cells, lent::COUNTERS_TABLE, &mut tables.counters),
+        lend_table(cells, lent::MARKS_TABLE, &mut tables.marks),
+        lend_table(cells, lent::WORDS_TABLE, &mut tables.words),
+        lend_table(cells, lent::MEMORY_TABLE, &mut tables.memory),
+        lend_table(cells, lent::MASKS_TABLE, &mut tables.masks),
     );
-    back(cells, lent::NUMBERS_TABLE, &blocks);
-    back(cells, lent::COUNTERS_TABLE, &counters);
-    back(cells, lent::MARKS_TABLE, &marks);
-    back(cells, lent::WORDS_TABLE, &words);
-    back(cells, lent::MEMORY_TABLE, &memory);
-    masks_back(cells, &masks);
+    tables.put_back(cells);
     started
 }
 
 // A run of the first n numbers of the requests.
 fn run(cells: &mut Cells, setup: Setup, mut account: Account, n: u32) -> Answer {
-    let view: &Cells = cells;
-    let mut blocks = [0u32; ROOM];
-    let mut counters = [0u32; ROOM];
-    let mut marks = [0u32; ROOM];
-    let mut words = [0u32; ROOM];
-    let mut memory = [0u32; ROOM];
-    let mut masks = [0u8; MASK_ROOM];
-    let mut values = [0u32; ROOM];
-    let mut requests = [0u32; ROOM];
-    let a = lend_table(view, lent::NUMBERS_TABLE, &mut blocks);
-    let b = lend_table(view, lent::COUNTERS_TABLE, &mut counters);
-    let c = lend_table(view, lent::MARKS_TABLE, &mut marks);
-    let d = lend_table(view, lent::WORDS_TABLE, &mut words);
-    let e = lend_table(view, lent::MEMORY_TABLE, &mut memory);
-    let f = lend_masks(view, &mut masks);
-    let g = lend_table(view, lent::VALUES_TABLE, &mut values);
-    let h = lend(view, REQUESTS, n, &mut requests);
+    let mut tables = Tables::of(cells);
     let answer = host_numbers::run(
         setup,
-        &mut blocks[..a],
-        &mut counters[..b],
-        &mut marks[..c],
-        &mut words[..d],
-        &mut memory[..e],
-        &mut masks[..f],
+        lend_table(cells, lent::NUMBERS_TABLE, &mut tables.blocks),
+        lend_table(cells, lent::COUNTERS_TABLE, &mut tables.counters),
+        lend_table(cells, lent::MARKS_TABLE, &mut tables.marks),
+        lend_table(cells, lent::WORDS_TABLE, &mut tables.words),
+        lend_table(cells, lent::MEMORY_TABLE, &mut tables.memory),
+        lend_table(cells, lent::MASKS_TABLE, &mut tables.masks),
         &mut account,
-        &requests[..h],
-        &mut values[..g],
+        lend_list(cells, REQUESTS, n, &mut [0; ROOM]),
+        lend_table(cells, lent::VALUES_TABLE, &mut tables.values),
     );
-    back(cells, lent::NUMBERS_TABLE, &blocks);
-    back(cells, lent::COUNTERS_TABLE, &counters);
-    back(cells, lent::MARKS_TABLE, &marks);
-    back(cells, lent::WORDS_TABLE, &words);
-    back(cells, lent::MEMORY_TABLE, &memory);
-    masks_back(cells, &masks);
-    back(cells, lent::VALUES_TABLE, &values);
+    tables.put_back(cells);
     Answer {
         refused: answer.refused,
         taken: answer.taken,
@@ -229,28 +226,16 @@ fn run(cells: &mut Cells, setup: Setup, mut account: Account, n: u32) -> Answer 
 
 // The price of the first m numbers of the entries for the first n numbers of the requests.
 fn price(cells: &mut Cells, setup: Setup, m: u32, n: u32) -> Result<u32, PlacedRefusal> {
-    let view: &Cells = cells;
-    let mut blocks = [0u32; ROOM];
-    let mut held = [0u32; ROOM];
-    let mut marks = [0u32; ROOM];
-    let mut entries = [0u32; ROOM];
-    let mut requests = [0u32; ROOM];
-    let a = lend_table(view, lent::NUMBERS_TABLE, &mut blocks);
-    let b = lend_table(view, lent::COUNTERS_TABLE, &mut held);
-    let c = lend_table(view, lent::MARKS_TABLE, &mut marks);
-    let d = lend(view, ENTRIES, m, &mut entries);
-    let e = lend(view, REQUESTS, n, &mut requests);
+    let mut tables = Tables::of(cells);
     let answer = host_numbers::price(
         setup,
-        &mut blocks[..a],
-        &mut held[..b],
-        &mut marks[..c],
-        &entries[..d],
-        &requests[..e],
+        lend_table(cells, lent::NUMBERS_TABLE, &mut tables.blocks),
+        lend_table(cells, lent::COUNTERS_TABLE, &mut tables.counters),
+        lend_table(cells, lent::MARKS_TABLE, &mut tables.marks),
+        lend_list(cells, ENTRIES, m, &mut [0; ROOM]),
+        lend_list(cells, REQUESTS, n, &mut [0; ROOM]),
     );
-    back(cells, lent::NUMBERS_TABLE, &blocks);
-    back(cells, lent::COUNTERS_TABLE, &held);
-    back(cells, lent::MARKS_TABLE, &marks);
+    tables.put_back(cells);
     answer
 }
 
@@ -304,19 +289,14 @@ pub struct Shown {
 }
 
 pub(crate) fn look(cells: &Cells, setup: Setup, i: u32, block: u32) -> Shown {
-    let mut blocks = [0u32; ROOM];
-    let mut counters = [0u32; ROOM];
-    let mut words = [0u32; ROOM];
-    let a = lend_table(cells, lent::NUMBERS_TABLE, &mut blocks);
-    let b = lend_table(cells, lent::COUNTERS_TABLE, &mut counters);
-    let c = lend_table(cells, lent::WORDS_TABLE, &mut words);
+    let mut tables = Tables::of(cells);
     let shown = engine_tables::look(
         setup,
         i,
         Block(block),
-        &blocks[..a],
-        &counters[..b],
-        &words[..c],
+        lend_table(cells, lent::NUMBERS_TABLE, &mut tables.blocks),
+        lend_table(cells, lent::COUNTERS_TABLE, &mut tables.counters),
+        lend_table(cells, lent::WORDS_TABLE, &mut tables.words),
     );
     Shown {
         count: shown.len(),
