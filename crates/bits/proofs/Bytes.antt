@@ -58,9 +58,9 @@ module _ (m : ℕ) (byte : m < 256) (some : m ≢ 0) where
   pub lowest-known : Lowest m (first 8 (bit_at m))
   lowest-known = record { small = lowest-small; set = first_holds 8 (bit_at m) lowest-small; before = first-before 8 (bit_at m) }
 
-  pub without-less : without_lowest m < m
+  pub without_less : without_lowest m < m
   unfolding without_lowest without_bit first bit_at
-  without-less = ltb-true _ _ (has-lowest (λ m. ltb (without_lowest m) m) refl)
+  without_less = ltb-true _ _ (has-lowest (λ m. ltb (without_lowest m) m) refl)
 
 -- ---- a bit changed in the mask of a test
 

@@ -12,7 +12,7 @@ use Rattle.protocol_types.specs.Bits.{bit_at, mask_of}
 use Rattle.bits.specs.Bits.{without_lowest}
 use Rattle.protocol_types.proofs.Laws.{Same, same, apart, same?, Under, under, over, under?}
 use Rattle.bits.proofs.Bits.{bit-out, mask-bit}
-use Rattle.bits.proofs.Bytes.{Lowest, lowest-known, without_at, without-less}
+use Rattle.bits.proofs.Bytes.{Lowest, lowest-known, without_at, without_less}
 
 -- of m, which has bits below n only, the bits below upto are visited, and left has the others
 pub record Visited (n m upto left : ℕ) : Type 0 where
@@ -90,7 +90,7 @@ module _ {n m upto left : ℕ} (v : Visited n m upto left) where
         let a = ahead (under? i upto) in
         let l = inside (under? i n) in
         let s = low.small in
-        let d = without-less left v.byte some in
+        let d = without_less left v.byte some in
         record {
           below = l;
           passes = λ P e. sym (test n m P e i l) ∙ is_set;
