@@ -13,7 +13,7 @@ use borrow.Author.Tests.{lt-ltb, le-ltb, eq-eqb, ne_eqb}
 use Rattle.protocol_types.specs.Lists.{first, other}
 use Rattle.protocol_types.specs.Bits.{mask_of}
 use Rattle.protocol_types.specs.Board.{slot, word_index}
-use Rattle.protocol.specs.Tables.{Tables, mark, holds, sharing, line_counter, marked}
+use Rattle.protocol.specs.Tables.{Tables, mark, holds, sharing, marked}
 use Rattle.protocol.specs.Masks.{holders}
 use Rattle.protocol.specs.Rules.{payer, owner, updated_copies}
 use Rattle.protocol_types.specs.declared.Setup.{Setup}
@@ -26,34 +26,18 @@ use Rattle.std.specs.Prelude.{Option, Some, None, is_some, unwrap_or, IfSome}
 use Rattle.engine_holders.specs.Searches.{other_holds, other_holder, weakest_below, weaker, owns, owner_from}
 
 -- a number below n was found, or none
-pub some-below : (r : Option ℕ) (n : ℕ) → IfSome r (λ j. j < n) → is_some r ≡ ltb (unwrap_or r n) n
-some-below None n h = sym (le-ltb n n (omega arith))
-some-below (Some j) n h = sym (lt-ltb j n h)
+pub some_below : (r : Option ℕ) (n : ℕ) → IfSome r (λ j. j < n) → is_some r ≡ ltb (unwrap_or r n) n
+some_below None n h = sym (le-ltb n n (omega arith))
+some_below (Some j) n h = sym (lt-ltb j n h)
 
 module _ (s : Setup) (t : Tables) (b : Block) where
   pub other-holder-is : (i : ℕ) → first s.processors (other_holds s t i b) ≡ other_holder s t i b
   unfolding other_holder other other_holds
   other-holder-is i = refl
 
-  pub sharing-is : (i : ℕ) → ltb (other_holder s t i b) s.processors ≡ sharing s t i b
+  pub sharing_is : (i : ℕ) → ltb (other_holder s t i b) s.processors ≡ sharing s t i b
   unfolding other_holder sharing
-  sharing-is i = refl
-
-  -- ---- the step of the search for the payer
-
-  module _ (k j : ℕ) where
-    pub weaker-first : k ≡ s.processors → j ≡ weaker s t b k j
-    unfolding weaker
-    weaker-first e = rw (eq-eqb k s.processors e)
-
-    module _ (some : k ≢ s.processors) where
-      pub weaker-kept : line_counter s t b k ≤ line_counter s t b j → k ≡ weaker s t b k j
-      unfolding weaker
-      weaker-kept h = rw (ne_eqb k s.processors some, le-ltb _ _ h)
-
-      pub weaker-taken : line_counter s t b j < line_counter s t b k → j ≡ weaker s t b k j
-      unfolding weaker
-      weaker-taken h = rw (ne_eqb k s.processors some, lt-ltb _ _ h)
+  sharing_is i = refl
 
   -- ---- the loops
 

@@ -14,6 +14,7 @@ use parts::set_word;
 use protocol_types::{Block, Setup};
 
 // Whether slot k holds a block. The block number is tested first: in a full cache it alone can differ.
+#[tactic(auto, unfolding(protocol::specs::Tables::holds_at))]
 fn line_holds(k: usize, block: Block, blocks: &[u32], counters: &[u32]) -> bool
     requires { (k < length blocks.now) × (k < length counters.now) }
     ensures { (m w g : List ℕ) → result ≡ holds_at (lent blocks.now counters.now m w g) k block }
@@ -22,6 +23,7 @@ fn line_holds(k: usize, block: Block, blocks: &[u32], counters: &[u32]) -> bool
 }
 
 // Whether a processor holds a block.
+#[tactic(auto, unfolding(protocol::specs::Tables::holds))]
 pub fn holds(setup: Setup, processor: u32, block: Block, blocks: &[u32], counters: &[u32]) -> bool
     requires fits { Fits setup }
     requires processor_lt_processors { processor < setup.processors }
@@ -32,6 +34,7 @@ pub fn holds(setup: Setup, processor: u32, block: Block, blocks: &[u32], counter
 }
 
 // Whether processor j is another one and holds a block.
+#[tactic(auto, unfolding(crate::specs::Searches::other_holds))]
 fn other_holds(
     setup: Setup,
     processor: u32,
@@ -81,6 +84,7 @@ pub fn shares(setup: Setup, processor: u32, block: Block, blocks: &[u32], counte
 }
 
 // Of two processors the one whose line for a block has the smaller counter, `weakest` if they are equal; j where `weakest` is none.
+#[tactic(auto, unfolding(crate::specs::Searches::weaker))]
 fn weaker(setup: Setup, block: Block, weakest: Option<u32>, j: u32, counters: &[u32]) -> u32
     requires fits { Fits setup }
     requires weakest_lt_processors { IfSome weakest (λ k. k < setup.processors) × (j < setup.processors) }
@@ -100,6 +104,7 @@ fn weaker(setup: Setup, block: Block, weakest: Option<u32>, j: u32, counters: &[
 // The payer of a write: the other holder with the smallest counter, the lowest processor among equals.
 // The search visits the set bits of the mask only, from which the writer's is taken first, and counts processors in a byte (document 02, P3), which is
 // enough for the number of a bit.
+#[tactic(auto, using(bits::proofs::Bytes::without_less))]
 pub fn payer(setup: Setup, processor: u32, block: Block, mask: u8, counters: &[u32]) -> Option<u32>
     requires fits { Fits setup }
     requires processor_lt_processors { processor < setup.processors }
@@ -119,6 +124,7 @@ pub fn payer(setup: Setup, processor: u32, block: Block, mask: u8, counters: &[u
 }
 
 // The processor that has a block marked.
+#[tactic(auto, using(bits::proofs::Bytes::without_less))]
 pub fn owner(setup: Setup, block: Block, mask: u8, marks: &[u32]) -> Option<u32>
     requires fits { Fits setup }
     requires mask_bound { mask < 2 ^ setup.processors }
@@ -139,6 +145,7 @@ pub fn owner(setup: Setup, block: Block, mask: u8, marks: &[u32]) -> Option<u32>
 }
 
 // Every copy of a block takes a word.
+#[tactic(auto, using(bits::proofs::Bytes::without_less))]
 pub fn update_copies(
     setup: Setup,
     block: Block,

@@ -14,12 +14,9 @@ loop-j-init c =
       λ b k w g e. owner-search-started a.setup (tables b k a.marks.now w g) a.block,
     )
 
-pub slot-requires : goal.slot-requires
-slot-requires c =
-    let t = turn c.loop-j.invariant.1 (omega (arith, c.in-Some.ensures.some)) c.in-Some.ensures.value in record {
-      fits = c.requires.fits;
-      processor_lt_processors = t.below;
-    }
+pub slot-requires-clause-processor_lt_processors :
+    goal.slot-requires-clause-processor_lt_processors
+slot-requires-clause-processor_lt_processors c = (turn c.loop-j.invariant.1 (omega (arith, c.in-Some.ensures.some)) c.in-Some.ensures.value).below
 
 pub returns-then-marks-slot-eq1 : goal.returns-then-marks-slot-eq1
 returns-then-marks-slot-eq1 c =
@@ -29,11 +26,6 @@ returns-then-marks-slot-eq1 c =
           (rw c.slot.ensures.value at c.if-marks-slot-eq1.true);
       in_range = t.below;
     }
-
-pub loop-j-smaller : goal.loop-j-smaller
-loop-j-smaller c =
-    let t = turn c.loop-j.invariant.1 (omega (arith, c.in-Some.ensures.some)) c.in-Some.ensures.value in
-    rw c.without_lowest-holders.ensures t.less
 
 pub loop-j-preserved : goal.loop-j-preserved
 loop-j-preserved c =

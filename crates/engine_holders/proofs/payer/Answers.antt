@@ -26,15 +26,9 @@ loop-j-init c =
       search rules,
     )
 
-pub weaker-requires-clause-weakest_lt_processors : goal.weaker-requires-clause-weakest_lt_processors
-weaker-requires-clause-weakest_lt_processors c =
-    let t = turn c.loop-j.invariant.1 (omega (arith, c.in-Some.ensures.some)) c.in-Some.ensures.value in
-    (c.loop-j.invariant.2, t.below)
-
-pub loop-j-smaller : goal.loop-j-smaller
-loop-j-smaller c =
-    let t = turn c.loop-j.invariant.1 (omega (arith, c.in-Some.ensures.some)) c.in-Some.ensures.value in
-    rw c.without_lowest-others.ensures t.less
+pub weaker-requires-clause-weakest_lt_processors :
+    goal.weaker-requires-clause-weakest_lt_processors
+weaker-requires-clause-weakest_lt_processors c = (c.loop-j.invariant.2, (turn c.loop-j.invariant.1 (omega (arith, c.in-Some.ensures.some)) c.in-Some.ensures.value).below)
 
 pub loop-j-preserved : goal.loop-j-preserved
 loop-j-preserved c =

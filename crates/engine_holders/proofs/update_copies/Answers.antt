@@ -1,39 +1,23 @@
 -- Up to each bit that is visited the copies have the word (the laws of visits), which lies within those of its slot (word_index-lt); what is left of the mask
 -- gets smaller.
 use Prim.Native.Nat.{suc}
-use mathlib.Core.Path.{refl, ◌∙◌}
+use mathlib.Core.Path.{◌∙◌}
 use native.Mathlib.Omega.{arith}
 use Rattle.protocol_types.specs.Board.{slots}
 use Rattle.protocol.specs.Tables.{tables}
 use Rattle.protocol_types.proofs.Board.{word_index-lt}
-use Rattle.bits.proofs.Visits.{visits-start, turn}
+use Rattle.bits.proofs.Visits.{turn}
 use Rattle.engine_holders.proofs.Search.{copies-next, copies-ended}
 use Rattle.engine_holders.proofs.update_copies.Goals as goal
 
-pub loop-j-init : goal.loop-j-init
-loop-j-init c =
-    let a = c.args in
-    (0, visits-start a.setup.processors a.mask c.requires.fits.few-processors c.requires.mask_bound, refl, λ b k m g e. refl)
-
-pub slot-k-requires : goal.slot-k-requires
-slot-k-requires c =
-    let t = turn c.loop-j.invariant.1 (omega (arith, c.in-Some.ensures.some)) c.in-Some.ensures.value in record {
-      fits = c.requires.fits;
-      processor_lt_processors = t.below;
-    }
+pub slot-k-requires-clause-processor_lt_processors :
+    goal.slot-k-requires-clause-processor_lt_processors
+slot-k-requires-clause-processor_lt_processors c = (turn c.loop-j.invariant.1 (omega (arith, c.in-Some.ensures.some)) c.in-Some.ensures.value).below
 
 pub set_word-requires : goal.set_word-requires
 set_word-requires c =
     let a = c.args in
     omega (arith, word_index-lt a.setup c.requires.fits c.slot-k.result (slots a.setup) a.offset c.slot-k.ensures.within c.requires.offset_lt_words, c.loop-j.invariant.2)
-
-pub loop-j-smaller : goal.loop-j-smaller
-loop-j-smaller c =
-    let t = turn c.loop-j.invariant.1 (omega (arith, c.in-Some.ensures.some)) c.in-Some.ensures.value in
-    rw c.without_lowest-copies.ensures t.less
-
-pub shape_of-words : goal.shape_of-words
-shape_of-words c = c.loop-j.invariant.2
 
 pub returns : goal.returns
 returns c b k m g e =
