@@ -1,6 +1,6 @@
 #!/usr/bin/env python3
 """Prints, as Markdown, what is public and changed between two folders with crates/: functions with their clauses, types with their
-invariants, definitions of specs/, and the statements of proofs/.
+invariants, definitions of specs/, the statements of proofs/, and must-fail edits.
 
     tools/design/changed.py OLD NEW
 """
@@ -76,6 +76,12 @@ def blocks_of_logic(root, folder):
     return found
 
 
+def edits(root):
+    """(crate, kind, name) -> text, of each must-fail edit"""
+    return {(path[len(root) + 1:].split("/")[1], "edit", path.split("/")[-1][:-5]): open(path, encoding="utf-8").read().strip()
+            for path in sorted(glob.glob(root + "/crates/*/must-fail/*.edit"))}
+
+
 def plain(text):
     return " ".join(text.split())
 
@@ -126,6 +132,7 @@ def main():
     show("Public types, with their invariants", pick(a, {"struct", "enum", "trait"}), pick(b, {"struct", "enum", "trait"}))
     show("Definitions of specs/", blocks_of_logic(old, "specs"), blocks_of_logic(new, "specs"))
     show("Statements of proofs/", blocks_of_logic(old, "proofs"), blocks_of_logic(new, "proofs"))
+    show("Must-fail edits", edits(old), edits(new))
 
 
 main()
