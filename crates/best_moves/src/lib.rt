@@ -8,7 +8,7 @@ ghost use Rattle.best_positions.specs.Position.{weight, digit, with_digit, has, 
 
 use protocol_types::{Block, Entry, Setup};
 
-// The positions between two layers, which have served one request more.
+// The positions of a layer, which have served equally many requests.
 const LAYER_SIZE: usize = 1296;
 
 // Requests by number: those below are reads and writes.
@@ -91,7 +91,6 @@ fn holds_none(u: usize, i: usize) -> bool
 }
 
 // The line of block b among so many lines. Only a block that is not below 2 × lines comes to the division: no block of a search does.
-
 pub fn line_of(lines: usize, b: usize) -> usize
     requires { (1 ≤ lines) × (lines ≤ 64) }
     ensures { result ≡ b % lines }

@@ -82,7 +82,7 @@ fn number_of(setup: Setup, processor: u32, operation: Operation) -> u32
     match operation {
         Operation::Read(v) => block_number(setup, v) + processor,
         Operation::Write(v, _) => block_number(setup, v) + 2 + processor,
-        Operation::Clear => 16 + processor,
+        Operation::Clear => best_moves::CLEAR as u32 + processor,
     }
 }
 
@@ -90,12 +90,12 @@ fn number_of(setup: Setup, processor: u32, operation: Operation) -> u32
 pub fn numbers_of<C: Stores<Request>>(
     setup: Setup,
     requests: &[C],
-) -> Result<[u32; 24], PlacedRefusal>
+) -> Result<[u32; REQUEST_COUNT], PlacedRefusal>
     requires { Fits setup × (setup.processors ≡ 2) × (setup.blocks ≤ 4) × (length (C.records requests.now) ≤ 24) }
     ensures { MatchResult result (λ asks. AreAsked setup (C.records requests.now) asks) (λ r. IsFirstRefused setup (C.records requests.now) r) }
 {
     let count = C::count(requests);
-    let mut asks = [0; 24];
+    let mut asks = [0; REQUEST_COUNT];
     for i in 0..count {
         let request = C::record_at(requests, i);
         if let Err(refusal) = setup.check_request(0, request) {

@@ -1,4 +1,4 @@
-// Parts of lent words: cleared, copied and compared; and rows of words, which are a slot's words and a block's words in main memory.
+// Rows of lent words, cleared, copied and compared: a slot's words, and a block's words in main memory.
 #![tactic(auto, unfolding(protocol_types::specs::Board::word_index))]
 
 ghost use Rattle.std.specs.Prelude.{◌≡◌, ◌+◌, ◌≤◌, ◌<◌, length, set, eqb};

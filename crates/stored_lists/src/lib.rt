@@ -40,54 +40,27 @@ pub trait Stores<R>: Copy {
     ghost reads_back: { (l : List Self) (i : ℕ) (q : R) → i < length (records l) → records (stored l i q) ≡ set (records l) i q };
 }
 
-impl Stores<Request> for Request {
+// A cell for each record.
+impl<R: Copy> Stores<R> for R {
     ghost records = { same };
 
     ghost whole = { always };
 
     ghost stored = { set };
 
-    fn is_whole(_list: &[Request]) -> bool {
+    fn is_whole(_list: &[R]) -> bool {
         true
     }
 
-    fn count(list: &[Request]) -> usize {
+    fn count(list: &[R]) -> usize {
         list.len()
     }
 
-    fn record_at(list: &[Request], i: usize) -> Request {
+    fn record_at(list: &[R], i: usize) -> R {
         list[i]
     }
 
-    fn store(list: &mut [Request], i: usize, item: Request) {
-        list[i] = item;
-    }
-
-    ghost keeps_length = { length-set };
-
-    ghost reads_back = { λ l i q h. refl };
-}
-
-impl Stores<Entry> for Entry {
-    ghost records = { same };
-
-    ghost whole = { always };
-
-    ghost stored = { set };
-
-    fn is_whole(_list: &[Entry]) -> bool {
-        true
-    }
-
-    fn count(list: &[Entry]) -> usize {
-        list.len()
-    }
-
-    fn record_at(list: &[Entry], i: usize) -> Entry {
-        list[i]
-    }
-
-    fn store(list: &mut [Entry], i: usize, item: Entry) {
+    fn store(list: &mut [R], i: usize, item: R) {
         list[i] = item;
     }
 
