@@ -80,6 +80,7 @@ impl Playing {
     // ---- the parts of a request, which found the engine at position u
 
     // Block b of processor i is written back if it is marked, then dropped.
+    #[tactic(auto, using(crate::proofs::Moves::moved_on, crate::proofs::Moves::ready_on), unfolding(crate::specs::Codes::leaving_codes))]
     fn leave(
         self,
         setup: Setup,
@@ -103,6 +104,7 @@ impl Playing {
     }
 
     // The block in a line of processor i leaves; an empty line needs no entry.
+    #[tactic(auto, using(crate::proofs::Moves::moved_none), unfolding(crate::specs::Codes::evicting_codes))]
     fn evict(
         self,
         setup: Setup,
