@@ -15,6 +15,7 @@ use parts::{clear_row, copy_row};
 use protocol_types::Setup;
 
 // Slot k becomes empty.
+#[tactic(auto, unfolding(protocol::specs::Rules::emptied))]
 pub fn empty_line(
     setup: Setup,
     k: usize,
@@ -34,6 +35,7 @@ pub fn empty_line(
 }
 
 // Main memory takes the words of slot `from`, whose mark clears.
+#[tactic(auto, unfolding(protocol::specs::Rules::written_back, protocol::specs::Tables::line_words))]
 pub fn write_back(
     setup: Setup,
     from: usize,
@@ -53,6 +55,7 @@ pub fn write_back(
 }
 
 // Slot k is written back if it is marked. Returns the cycles.
+#[tactic(auto, unfolding(protocol::specs::Rules::save_cycles, protocol::specs::Rules::saved, protocol::specs::Tables::marked))]
 fn save(
     setup: Setup,
     k: usize,

@@ -18,14 +18,6 @@ lose_at-requires c =
       k_in_bounds = (omega (arith, p.sized.blocks), omega (arith, p.sized.counters), rw (length-masks a.setup t p.true_masks) p.k_bound);
     }
 
-pub empty_line-requires : goal.empty_line-requires
-empty_line-requires c =
-    let p = c.requires in
-    let z = p.sized in record {
-      k_bound = p.processor_lt_processors.1;
-      per_slot = (z.blocks, z.counters, c.save-cycles.auto.marks ∙ z.marks, z.words);
-    }
-
 pub returns : goal.returns
 unfolding evicted lost_at
 returns c =

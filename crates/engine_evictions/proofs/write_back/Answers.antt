@@ -2,8 +2,6 @@
 use native.Mathlib.Omega.{arith}
 use Rattle.protocol_types.specs.Lists.{at}
 use Rattle.protocol_types.specs.Board.{slots}
-use Rattle.protocol.specs.Tables.{line_words}
-use Rattle.protocol.specs.Rules.{written_back}
 use Rattle.protocol_types.proofs.Rows.{row-end}
 use Rattle.engine_evictions.proofs.write_back.Goals as goal
 
@@ -11,8 +9,3 @@ pub copy_row-requires : goal.copy_row-requires
 copy_row-requires c =
     let a = c.args in
     omega (arith, row-end a.setup a.from (slots a.setup) c.requires.from_bound, row-end a.setup (at a.blocks.now a.from) a.setup.blocks c.requires.from_bound_2)
-
-pub returns : goal.returns
-unfolding written_back line_words
-returns c cs =
-    rw c.copy_row.ensures
