@@ -15,6 +15,7 @@ use parts::copy_row;
 use protocol_types::{Block, Setup};
 
 // Main memory takes the words of the cache that has a block marked, whose mark clears. `mask` is the block's mask of holders.
+#[tactic(auto, unfolding(protocol::specs::Rules::released))]
 fn release(
     setup: Setup,
     block: Block,
@@ -37,6 +38,7 @@ fn release(
 }
 
 // Slot k gets a block, with main memory's words.
+#[tactic(auto, unfolding(protocol::specs::Rules::filled, protocol::specs::Tables::memory_words))]
 fn fill(
     setup: Setup,
     k: usize,
@@ -59,6 +61,7 @@ fn fill(
 }
 
 // A block is fetched into slot k. `mask` is its mask of holders before.
+#[tactic(auto, using(bits::proofs::Bits::mask_below), unfolding(protocol::specs::Masks::holders, protocol::specs::Rules::fetched))]
 pub fn fetch(
     setup: Setup,
     k: usize,
@@ -83,6 +86,7 @@ pub fn fetch(
 }
 
 // The payer's counter, at slot k, falls by 1; at 0 its line becomes empty. Returns whether it does.
+#[tactic(auto, unfolding(protocol::specs::Rules::charged))]
 pub fn charge(
     setup: Setup,
     k: usize,
