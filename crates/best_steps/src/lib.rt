@@ -50,6 +50,7 @@ pub fn lengths_fit(
 }
 
 // Whether a search of `count` requests is refused before the first: 1, 10, 12, 2 in this order.
+#[tactic(auto, unfolding(best_positions::specs::Best::search_refusal))]
 pub fn check_search(setup: Setup, count: usize, fits: bool) -> Result<(), Refusal>
     ensures { refusal_number result ≡ search_refusal setup count fits }
 {
