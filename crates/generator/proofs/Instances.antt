@@ -13,7 +13,7 @@ use Rattle.protocol.proofs.Generator.{length-workload}
 use Rattle.protocol_types.specs.declared.Setup.{Setup}
 use Rattle.protocol_types.specs.declared.Request.{Request}
 use Rattle.host_decoding.specs.Records.{request_width, whole, requests_of}
-use Rattle.host_decoding.proofs.Decoding.{request-count}
+use Rattle.host_decoding.proofs.Decoding.{requests_counted}
 use Rattle.host_encoding.specs.Numbers.{list_numbers}
 use Rattle.stored_lists.specs.Lists.{same, always, request_set, filled}
 use Rattle.stored_lists.proofs.Filled.{records-filled, requests-filled}
@@ -57,7 +57,7 @@ module _ (s : Setup) (seed : ℕ) where
     unfolding whole
     all-written w =
         let e : length (workload s seed n) ≡ n = length-workload s seed n in
-        let count = request-count ns in
+        let count = requests_counted ns in
         let most : length ns ≤ n * request_width = omega (arith, eqb-true (length ns % request_width) 0 w) in
         requests-filled ns (workload s seed n) (omega arith)
         ∙ rw (e, drop_of_length-le ns {i = n * request_width} most, append-nil (list_numbers (workload s seed n)))

@@ -14,7 +14,7 @@ use Rattle.protocol_types.specs.declared.Setup.{Setup}
 use Rattle.protocol_types.proofs.Laws.{choice}
 use Rattle.best_positions.specs.Best.{SearchTables, best_refusal, schedule, best_answer}
 use Rattle.host_decoding.specs.Records.{request_width, entry_width, whole, both_whole, requests_of, entries_of}
-use Rattle.host_decoding.proofs.Decoding.{entry-count}
+use Rattle.host_decoding.proofs.Decoding.{entries_counted}
 use Rattle.host_encoding.specs.Numbers.{schedule_numbers}
 use Rattle.stored_lists.specs.Lists.{entry_set}
 use Rattle.stored_lists.proofs.Filled.{entries-filled}
@@ -25,7 +25,7 @@ use Rattle.host_best.specs.Numbers.{entries_lent, numbers_sized, best_numbers_re
 -- there is room for as many entries as are lent
 lent-room : (ns ms : List ℕ) → entries_lent ns ms ≤ length ms / entry_width
 unfolding entries_lent
-lent-room ns ms = choice (λ (n : ℕ). n ≤ length ms / entry_width) (both_whole ns ms) (λ w. omega (arith, entry-count ms)) (λ w. omega arith)
+lent-room ns ms = choice (λ (n : ℕ). n ≤ length ms / entry_width) (both_whole ns ms) (λ w. omega (arith, entries_counted ms)) (λ w. omega arith)
 
 module _ (s : Setup) (x : SearchTables) (ns ms : List ℕ) (m : ℕ) where
   numbers-stored : best_stored entry_set s (requests_of ns) m (numbers_sized x ns ms) ms ≡ best_numbers s x ns ms m

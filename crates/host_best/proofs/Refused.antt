@@ -12,7 +12,7 @@ use Rattle.protocol_types.proofs.Laws.{both_true}
 use Rattle.best_positions.specs.Best.{SearchTables, search_tables, searchable, search_sized, search_refusal, best_refusal}
 use Rattle.best_steps.proofs.Checks.{tables-sized}
 use Rattle.host_decoding.specs.Records.{request_width, entry_width, whole, both_whole, entries_of}
-use Rattle.host_decoding.proofs.Decoding.{entry-count}
+use Rattle.host_decoding.proofs.Decoding.{entries_counted}
 use Rattle.host_best.specs.Numbers.{entries_lent, numbers_sized, best_numbers_refusal}
 
 -- 2 lets only whole requests and exactly 97,200 numbers of a schedule through
@@ -23,7 +23,7 @@ sized-numbers x ns ms e = go (both_whole ns ms) refl (tables-sized x (entries_le
     go : (c : Bool) → both_whole ns ms ≡ c → cond c (length (entries_of ms)) 0 ≡ 32400 → (whole request_width ns ≡ true) × (length ms ≡ 97200)
     go true w h =
         let b = both_true (whole request_width ns) (whole entry_width ms) w in
-        (b.0, omega (arith, h, entry-count ms, eqb-true (length ms % entry_width) 0 b.1))
+        (b.0, omega (arith, h, entries_counted ms, eqb-true (length ms % entry_width) 0 b.1))
     go false w h = absurd (omega (arith, h))
 
 -- ---- the order, by example: 10 before 12, 12 before 2, and 2 before 3

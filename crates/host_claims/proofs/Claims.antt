@@ -14,7 +14,7 @@ use Rattle.protocol_types.specs.declared.Setup.{Setup}
 use Rattle.protocol_types.specs.declared.Request.{Request}
 use Rattle.competitive.proofs.Generator.{generated-is, repeatable}
 use Rattle.host_decoding.specs.Records.{request_width, whole, partial_refusal, requests_of}
-use Rattle.host_decoding.proofs.Decoding.{request-count}
+use Rattle.host_decoding.proofs.Decoding.{requests_counted}
 use Rattle.host_encoding.specs.Numbers.{request_numbers, list_numbers}
 use Rattle.host_encoding.proofs.Numbers.{length-numbers, named_back}
 use Rattle.host_numbers.specs.Numbers.{run_numbers}
@@ -51,7 +51,7 @@ accepts s seed ns e = go (whole request_width ns) refl e
       is_whole = w;
       listed = f;
       numbers = rw e;
-      count = omega (arith, eqb-true (length ns % request_width) 0 w, request-count ns);
+      count = omega (arith, eqb-true (length ns % request_width) 0 w, requests_counted ns);
     }
     go false w f = absurd (partial-refuses s f)
 

@@ -29,12 +29,12 @@ read_named o v x w c = simp (ne_eqb o 1 w, ne_eqb o 2 c)
 
 -- ---- four numbers a request
 
-pub request-count : (ns : List ℕ) → length (requests_of ns) ≡ length ns / request_width
-request-count [] = refl
-request-count (i ∷ []) = refl
-request-count (i ∷ o ∷ []) = refl
-request-count (i ∷ o ∷ v ∷ []) = refl
-request-count (i ∷ o ∷ v ∷ x ∷ ns) = omega (arith, request-count ns)
+pub requests_counted : (ns : List ℕ) → length (requests_of ns) ≡ length ns / request_width
+requests_counted [] = refl
+requests_counted (i ∷ []) = refl
+requests_counted (i ∷ o ∷ []) = refl
+requests_counted (i ∷ o ∷ v ∷ []) = refl
+requests_counted (i ∷ o ∷ v ∷ x ∷ ns) = omega (arith, requests_counted ns)
 
 pub request-at : (ns : List ℕ) (k : ℕ) (d : Request) → k < length ns / request_width → request_at ns k ≡ get_or (requests_of ns) k d
 request-at [] k d h = absurd (omega arith)
@@ -46,11 +46,11 @@ request-at (i ∷ o ∷ v ∷ x ∷ ns) (suc k) d h = simp (suc-mul, unary_claus
 
 -- ---- three numbers an entry
 
-pub entry-count : (ns : List ℕ) → length (entries_of ns) ≡ length ns / entry_width
-entry-count [] = refl
-entry-count (k ∷ []) = refl
-entry-count (k ∷ i ∷ []) = refl
-entry-count (k ∷ i ∷ b ∷ ns) = omega (arith, entry-count ns)
+pub entries_counted : (ns : List ℕ) → length (entries_of ns) ≡ length ns / entry_width
+entries_counted [] = refl
+entries_counted (k ∷ []) = refl
+entries_counted (k ∷ i ∷ []) = refl
+entries_counted (k ∷ i ∷ b ∷ ns) = omega (arith, entries_counted ns)
 
 pub entry-at : (ns : List ℕ) (n : ℕ) (d : Entry) → n < length ns / entry_width → entry_at ns n ≡ get_or (entries_of ns) n d
 entry-at [] n d h = absurd (omega arith)

@@ -43,6 +43,7 @@ pub fn check_whole(setup: Setup, whole: bool) -> Result<(), Refusal>
 }
 
 // How many requests a list of numbers names.
+#[tactic(auto, using(crate::proofs::Decoding::requests_counted))]
 pub fn request_count(numbers: &[u32]) -> usize
     ensures { result ≡ length (requests_of numbers.now) }
 {
@@ -82,6 +83,7 @@ pub fn request_at(numbers: &[u32], i: usize) -> Request
 }
 
 // How many entries a list of numbers names.
+#[tactic(auto, using(crate::proofs::Decoding::entries_counted))]
 pub fn entry_count(numbers: &[u32]) -> usize
     ensures { result ≡ length (entries_of numbers.now) }
 {

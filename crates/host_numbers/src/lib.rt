@@ -12,6 +12,7 @@ ghost use Rattle.host_numbers.specs.Numbers.{run_numbers, price_of_numbers, pric
 use protocol_types::{Account, PlacedRefusal, RunAnswer, Setup};
 
 // A run of the requests that the numbers name; a list that is not whole is refused.
+#[tactic(auto, unfolding(crate::specs::Numbers::run_numbers))]
 pub fn run(
     setup: Setup,
     blocks: &mut [u32],
@@ -33,6 +34,7 @@ pub fn run(
 }
 
 // The price of a schedule for the requests; lists that are not whole are refused.
+#[tactic(auto, unfolding(crate::specs::Numbers::price_in_numbers, crate::specs::Numbers::price_of_numbers, crate::specs::Numbers::price_tables_of_numbers))]
 pub fn price(
     setup: Setup,
     blocks: &mut [u32],

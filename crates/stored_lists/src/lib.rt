@@ -88,6 +88,7 @@ impl Stores<Request> for u32 {
         host_decoding::request_at(list, i)
     }
 
+    #[tactic(auto, using(host_decoding::proofs::Decoding::requests_counted))]
     fn store(list: &mut [u32], i: usize, item: Request) {
         host_encoding::store_request(list, i, item);
     }
@@ -116,6 +117,7 @@ impl Stores<Entry> for u32 {
         host_decoding::entry_at(list, i)
     }
 
+    #[tactic(auto, using(host_decoding::proofs::Decoding::entries_counted))]
     fn store(list: &mut [u32], i: usize, item: Entry) {
         host_encoding::store_entry(list, i, item);
     }
