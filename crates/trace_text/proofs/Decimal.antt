@@ -1,4 +1,4 @@
--- `decimal n` is what `digits::decimal` writes of n: the ASCII digits that denote n, with no zero in front.
+-- `decimal n` is what `TextBuffer::put_number` appends of n: the ASCII digits that denote n, with no zero in front.
 use Prim.Native.Nat.{ℕ, zero, suc, ◌+◌, ◌-◌, ◌*◌, ◌/◌, ◌%◌, ◌^◌, ◌≤◌, ◌<◌}
 use mathlib.Core.Path.{◌≡◌, refl, sym, ap, ◌∙◌}
 use mathlib.Core.List.{List, [], ◌∷◌, ◌++◌}
@@ -6,12 +6,12 @@ use mathlib.Core.Logic.{⊎_elim}
 use native.Mathlib.Omega.{arith}
 use native.Mathlib.Nat.{pow-succ', pow-le-pow_right, eq-or-lt_of_le, le_antisymm, lt_of_not-le}
 use lib.Dec.{ltb, lit<}
-use lib.ListN.{length, take, get_or, length-append, get_or-append}
+use lib.ListN.{length, get_or, length-append, get_or-append}
 use lib.Seq.{get_or_at}
 use borrow.Author.Tests.{ltb-true, ltb-false, lt-ltb}
 use Rattle.trace_text.specs.Digits.{last_digits, hex_digit_ascii, IsDigitCount}
 use Rattle.protocol_types.proofs.Laws.{choice}
-use Rattle.trace_text.specs.Text.{places, number_width, decimal, denoted}
+use Rattle.trace_text.specs.Text.{places, decimal, denoted}
 
 -- ---- how many digits
 
@@ -51,22 +51,14 @@ below n h = omega arith
 decimal-fewest : (n : ℕ) → n < 2 ^ 64 → IsDigitCount 10 1 n (places 19 n)
 decimal-fewest n h = places-fewest 19 n (below n h)
 
--- what `digits::decimal` writes
-pub decimal_is : (n k : ℕ) (out : List ℕ) → n < 2 ^ 64 → IsDigitCount 10 1 n k → take k out ≡ last_digits 10 k n → take k out ≡ decimal n
+-- what `digits::write_digits` writes where it is given `digit_count` places
+pub fewest_decimal : (n k : ℕ) → n < 2 ^ 64 → IsDigitCount 10 1 n k → last_digits 10 k n ≡ decimal n
 unfolding decimal
-decimal_is n k out h f e = e ∙ ap (λ (j : ℕ). last_digits 10 j n) (only-fewest n k (places 19 n) f (decimal-fewest n h))
-
-places-most : (k n : ℕ) → places k n ≤ suc k
-places-most zero n = omega arith
-places-most (suc k) n = choice (λ (p : ℕ). p ≤ suc (suc k)) (ltb n 10) (λ _. omega arith) (λ _. omega (arith, places-most k (n / 10)))
+fewest_decimal n k h f = ap (λ (j : ℕ). last_digits 10 j n) (only-fewest n k (places 19 n) f (decimal-fewest n h))
 
 length_digits : (k n : ℕ) → length (last_digits 10 k n) ≡ k
 length_digits zero n = refl
 length_digits (suc k) n = length-append (last_digits 10 k (n / 10)) _ ∙ omega (arith, length_digits k (n / 10))
-
-pub decimal-length : (n : ℕ) → length (decimal n) ≤ number_width
-unfolding decimal
-decimal-length n = omega (arith, length_digits (places 19 n) n, places-most 19 n)
 
 -- ---- what they denote
 

@@ -1,4 +1,3 @@
-pub mod Counting
 pub mod Decimal
 pub mod Powers
 pub mod Printed

@@ -1,13 +1,10 @@
--- What the proofs of `digit_count`, `decimal` and `hex` want of powers of a base.
+-- What the proof of `digit_count` wants of powers of a base.
 use Prim.Native.Nat.{ℕ, ◌+◌, ◌-◌, ◌*◌, ◌/◌, ◌^◌, ◌≤◌, ◌<◌}
-use native.Mathlib.Nat.{le_trans, le_of_suc-le-suc, mul-le-mul_right, mul-div-le, one-mul, pow-zero, pow-suc, one-le-pow, pow-le-pow_right, div-div-eq-div-mul, le-div_iff_mul-le, div-lt_iff_lt-mul, lt_of_not-le}
+use native.Mathlib.Nat.{le_of_suc-le-suc, one-mul, pow-zero, pow-suc, one-le-pow, pow-le-pow_right, div-div-eq-div-mul, le-div_iff_mul-le, div-lt_iff_lt-mul, lt_of_not-le}
 use native.Mathlib.Numerals.{add-one}
 use native.Mathlib.Omega.{arith}
 use mathlib.Core.Path.{◌≡◌, sym, ap, subst, ◌∙◌}
 use Rattle.trace_text.specs.Digits.{IsDigitCount}
-
-pub two-mul-div-le : (n b : ℕ) → 1 < b → 2 * (n / b) ≤ n
-two-mul-div-le n b h = le_trans (mul-le-mul_right (n / b) h) (mul-div-le n b)
 
 pub div-pow-one : (n b : ℕ) → n / b ≡ n / b ^ 1
 div-pow-one n b = ap (λ (d : ℕ). n / d) (sym (pow-suc b 0 ∙ ap (λ (p : ℕ). p * b) (pow-zero b) ∙ one-mul b))
@@ -38,3 +35,7 @@ digit_count_not_above b width n k most h fewest within holds over =
 -- where `most` digits hold n, the fewest are no more
 pub digit_count_le : (b width n k most : ℕ) → 0 < b → IsDigitCount b width n k → width ≤ most → n < b ^ most → k ≤ most
 digit_count_le b width n k most h fewest within holds = le_of_suc-le-suc (lt_of_not-le (digit_count_not_above b width n k most h fewest within holds))
+
+-- twenty digits hold a u64
+pub count_fits : (n k : ℕ) → n < 2 ^ 64 → IsDigitCount 10 1 n k → k ≤ 20
+count_fits n k h e = digit_count_le 10 1 n k 20 (omega arith) e (omega arith) (omega arith)

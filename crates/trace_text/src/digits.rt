@@ -1,21 +1,12 @@
 // A number's decimal digits, in ASCII.
-ghost use Rattle.std.specs.Prelude.{◌≡◌, ◌<◌, ◌≤◌, length, take};
-ghost use Rattle.trace_text.specs.Digits.{IsPrefixLen, last_digits, IsDigitCount, hex_digit_ascii};
-
-// Puts the digits of n at the start of out, and answers how many there are.
-pub(crate) fn decimal(n: u64, out: &mut [u8; 20]) -> usize
-    ensures in_bounds { IsPrefixLen result out.new }
-    ensures len { IsDigitCount 10 1 n result }
-    ensures digits { take result out.new ≡ last_digits 10 result n }
-{
-    let k = digit_count(n);
-    write_digits(n, k, out);
-    k
-}
+ghost use Rattle.std.specs.Prelude.{◌≡◌, ◌<◌, ◌≤◌, length};
+ghost use Rattle.trace_text.specs.Digits.{last_digits, IsDigitCount, hex_digit_ascii};
+ghost use Rattle.trace_text.specs.Text.{number_width};
 
 // How many digits n takes.
-fn digit_count(n: u64) -> usize
-    ensures { IsDigitCount 10 1 n result }
+pub(crate) fn digit_count(n: u64) -> usize
+    ensures fewest { IsDigitCount 10 1 n result }
+    ensures fits { result ≤ number_width }
 {
     let mut k = 1;
     let mut rest = n / 10;
@@ -26,13 +17,12 @@ fn digit_count(n: u64) -> usize
     k
 }
 
-// Puts the last k digits of n at the start of out.
-fn write_digits(n: u64, k: usize, out: &mut [u8])
-    requires { k ≤ length out.old }
-    ensures { take k out.new ≡ last_digits 10 k n }
+// Puts the last digits of n into out, as many as it holds.
+pub(crate) fn write_digits(n: u64, out: &mut [u8])
+    ensures { out.new ≡ last_digits 10 (length out.old) n }
 {
     let mut rest = n;
-    for i in (0..k).rev() {
+    for i in (0..out.len()).rev() {
         out[i] = digit_to_ascii(rest % 10);
         rest /= 10;
     }

@@ -15,9 +15,6 @@ use trace_lines::Report;
 // The most bytes that a report is: 20 digits to a number.
 const TEXT_WIDTH: usize = 192;
 
-// The most digits of a number.
-const NUMBER_WIDTH: usize = 20;
-
 // A text that is written from its start on. Clauses see the bytes written so far.
 #[derive(Drop)]
 pub struct TextBuffer {
@@ -64,15 +61,14 @@ impl TextBuffer {
     }
 
     // A number.
-    #[tactic(auto, using(crate::proofs::Decimal::decimal_is))]
     fn put_number(&mut self, number: u64)
         requires { length self.old + number_width ≤ text_width }
         ensures appended { self.new ≡ self.old ++ decimal number }
         ensures room { length self.new ≤ length self.old + number_width }
     {
-        let mut digits = [0u8; NUMBER_WIDTH];
-        let count = digits::decimal(number, &mut digits);
-        self.put(&digits[..count]);
+        let end = self.length + digits::digit_count(number);
+        digits::write_digits(number, &mut self.bytes[self.length..end]);
+        self.length = end;
     }
 
     // A word and a number.

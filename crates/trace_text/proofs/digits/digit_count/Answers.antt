@@ -1,14 +1,12 @@
 use native.Mathlib.Omega.{arith}
 use mathlib.Core.Path.{ap, ◌∙◌}
 use Prim.Native.Nat.{ℕ, ◌/◌}
-use Rattle.trace_text.proofs.Powers.{div-pow-one, div-pow-div, pow-le_of_div_pos, lt-pow_of_div-zero}
+use Rattle.trace_text.proofs.Powers.{div-pow-one, div-pow-div, pow-le_of_div_pos, lt-pow_of_div-zero, count_fits}
+use Rattle.trace_text.specs.Digits.{IsDigitCount}
 use Rattle.trace_text.proofs.digits.digit_count.Goals as goal
 
 pub loop-rest-init : goal.loop-rest-init
 loop-rest-init c = (omega arith, omega arith, div-pow-one c.args.n 10, omega arith)
-
-pub loop-rest-smaller : goal.loop-rest-smaller
-loop-rest-smaller c = omega arith
 
 pub loop-rest-preserved : goal.loop-rest-preserved
 loop-rest-preserved c =
@@ -23,4 +21,6 @@ loop-rest-preserved c =
 pub returns : goal.returns
 returns c =
     let l = c.loop-rest in
-    (omega arith, lt-pow_of_div-zero c.args.n 10 l.k l.k (omega arith) (omega arith) (omega arith), λ more. l.invariant.3 (omega arith))
+    let fewest : IsDigitCount 10 1 c.args.n l.k =
+    (omega arith, lt-pow_of_div-zero c.args.n 10 l.k l.k (omega arith) (omega arith) (omega arith), λ more. l.invariant.3 (omega arith)) in
+    record { fewest = fewest; fits = count_fits c.args.n l.k (omega arith) fewest }
