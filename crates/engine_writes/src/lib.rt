@@ -16,6 +16,7 @@ use parts::set_word;
 use protocol_types::{Block, Setup};
 
 // The only holder, at slot k, writes: its word changes and it is marked.
+#[tactic(auto, unfolding(protocol::specs::Rules::written_alone))]
 fn write_alone(
     setup: Setup,
     k: usize,
@@ -39,6 +40,7 @@ fn write_alone(
 }
 
 // The holder at slot `writer` writes a block that others hold too: the word changes in every copy and in main memory. `mask` is the block's mask of holders.
+#[tactic(auto, unfolding(protocol::specs::Rules::broadcast))]
 fn broadcast(
     setup: Setup,
     writer: usize,
@@ -67,6 +69,7 @@ fn broadcast(
 }
 
 // The holder at slot `writer` writes a block that others hold too, and the payer at slot `payer` is charged. Returns whether the payer's line becomes empty.
+#[tactic(auto, using(bits::proofs::Bits::mask_below, protocol_types::proofs::Laws::at_set), unfolding(protocol::specs::Masks::holders, protocol::specs::Rules::broadcast))]
 fn write_shared(
     setup: Setup,
     writer: usize,

@@ -1,6 +1,5 @@
 -- The word lies within the block's row of main memory.
 use native.Mathlib.Omega.{arith}
-use Rattle.protocol.specs.Rules.{broadcast}
 use Rattle.protocol_types.proofs.Board.{word_index-lt}
 use Rattle.engine_writes.proofs.broadcast.Goals as goal
 
@@ -9,9 +8,3 @@ set_word-requires c =
     let a = c.args in
     let p = c.requires in
     omega (arith, word_index-lt a.setup p.fits a.block.0 a.setup.blocks a.offset p.block_lt_blocks p.offset_lt_words)
-
-pub returns : goal.returns
-unfolding broadcast
-returns c b m e =
-    let a = c.args in
-    simp (c.update_copies.ensures b a.counters.now m a.memory.now e, c.set_word.ensures, c.fetch_price-full.ensures)

@@ -97,16 +97,6 @@ returns-in_default c =
       masks_after = p.true_masks ∙ sym (ap (masks_of s) w ∙ masks-alone s p.fits t a.processor a.block p.block_value c.slot-k.result c.slot-k.ensures.value a.offset a.value);
     }
 
-pub write_alone-requires : goal.write_alone-requires
-write_alone-requires c =
-    let p = c.requires in
-    let z = p.sized in record {
-      fits = p.fits;
-      k_bound = c.slot-k.ensures.within;
-      offset_lt_words = p.offset_lt_words;
-      per_slot = (z.counters, z.marks, z.words);
-    }
-
 pub write_shared-emptied-requires : goal.write_shared-emptied-requires
 write_shared-emptied-requires c =
     let a = c.args in
