@@ -120,7 +120,7 @@ fn tell<R: Print + Eprint>(rt: &R, answer: Result<Report, ReadFailed<Report>>) -
         let _ = rt.eprintln("buscount: standard input could not be read.");
         return false;
     };
-    let text = trace_text::render(report);
+    let text = trace_text::render(report.numbers());
     if rt.write_all(text.written()).is_ok() {
         return true;
     }

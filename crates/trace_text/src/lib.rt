@@ -3,14 +3,13 @@
 
 ghost use Rattle.std.specs.Prelude.{◌≡◌, ◌+◌, ◌≤◌, ◌++◌, [], length};
 ghost use Rattle.protocol.specs.Accounts.{cycles_of};
-ghost use Rattle.trace_lines.specs.Trace.{report_numbers};
 ghost use Rattle.trace_text.specs.Text.{number_width, decimal, field, line, account_lines, text, field_width, line_width, account_width, text_width};
 
 mod digits;
 
 use protocol_types::Account;
 use std::marker::Model;
-use trace_lines::Report;
+use trace_lines::ReportNumbers;
 
 // The most bytes that a report is: 20 digits to a number.
 const TEXT_WIDTH: usize = 192;
@@ -115,11 +114,10 @@ fn cycles(account: Account) -> u64
     account.fetch as u64 + account.write_back as u64 + account.update as u64
 }
 
-// The six lines of a report.
-pub fn render(report: Report) -> TextBuffer
-    ensures { result ≡ text (report_numbers report) }
+// The six lines of a report in numbers.
+pub fn render(numbers: ReportNumbers) -> TextBuffer
+    ensures { result ≡ text numbers }
 {
-    let numbers = report.numbers();
     let mut text = TextBuffer::new();
     text.put_account(numbers.account);
     text.put_field(b"ended", numbers.refusal as u64);

@@ -1,5 +1,4 @@
 -- The lines of the account and the last one, appended to an empty text.
-use mathlib.Core.Path.{◌≡◌, ap, ◌∙◌}
 use mathlib.Core.List.{append_assoc}
 use Rattle.trace_text.specs.Text.{text, line, field}
 use Rattle.trace_text.proofs.render.Goals as goal
@@ -7,6 +6,4 @@ use Rattle.trace_text.proofs.render.Goals as goal
 pub returns : goal.returns
 unfolding text line field
 returns c =
-    let written : c.put_line.new.self ≡ text c.numbers-numbers.result =
-    rw (c.put_line.ensures.appended, c.put_field.ensures.appended, c.put_account.ensures.appended, c.new-text.ensures) (simp append_assoc) in
-    written ∙ ap text c.numbers-numbers.ensures
+    rw (c.put_line.ensures.appended, c.put_field.ensures.appended, c.put_account.ensures.appended, c.new-text.ensures) (simp append_assoc)
