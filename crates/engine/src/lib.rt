@@ -71,6 +71,7 @@ fn obtain(
 }
 
 // Processor i reads a variable, or, where there is a value to store, writes it.
+#[tactic(auto, unfolding(crate::specs::Usable::obtain_bill))]
 fn serve_access(
     setup: Setup,
     i: u32,
@@ -147,6 +148,7 @@ fn serve_clear(
 }
 
 // One request is served.
+#[tactic(auto, unfolding(protocol::specs::Requests::bill, protocol::specs::Requests::served, protocol::specs::Requests::value))]
 pub fn serve(
     setup: Setup,
     request: Request,

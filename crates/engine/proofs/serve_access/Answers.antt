@@ -7,7 +7,6 @@ use Rattle.protocol.specs.Tables.{Tables, tables, Sized, holds}
 use Rattle.protocol_types.proofs.Board.{block-lt, offset-lt, word_index-lt}
 use Rattle.protocol.proofs.Lengths.{sized-obtained}
 use Rattle.protocol.proofs.Slots.{obtained-holds}
-use Rattle.engine.specs.Usable.{obtain_bill}
 use Rattle.engine.proofs.serve_access.Goals as goal
 
 pub obtain-bill-requires : goal.obtain-bill-requires
@@ -20,12 +19,6 @@ obtain-bill-requires c =
       usable = p.usable;
       true_masks = p.true_masks;
     }
-
-pub slot-requires : goal.slot-requires
-slot-requires c = record {
-  fits = c.requires.fits;
-  processor_lt_processors = c.requires.i_lt_processors;
-}
 
 pub word_of-word-requires : goal.word_of-word-requires
 word_of-word-requires c =
@@ -51,26 +44,4 @@ write-update-requires c =
       block_value = subst (λ (x : Tables). holds s x a.i b ≡ true) e (obtained-holds s p.fits t z a.i b p.i_lt_processors);
       sized = subst (Sized s) e (sized-obtained s t z a.i b);
       true_masks = c.obtain-bill.ensures.masks_after;
-    }
-
-pub returns-in-None : goal.returns-in-None
-unfolding obtain_bill
-returns-in-None c =
-    let e = c.in-None.is in
-    let b = c.block_of-block.ensures in record {
-      value_value = rw (e, ← b, ← c.offset_of-offset.ensures, ← c.obtain-bill.ensures.memory_value, ← c.slot.ensures.value) c.word_of-word.ensures;
-      bill_value = rw (e, ← b) c.obtain-bill.ensures.value;
-      memory_value = rw (e, ← b) c.obtain-bill.ensures.memory_value;
-      masks_after = c.obtain-bill.ensures.masks_after;
-    }
-
-pub returns-in-Some : goal.returns-in-Some
-unfolding obtain_bill
-returns-in-Some c =
-    let e = c.in-Some.is in
-    let b = c.block_of-block.ensures in record {
-      value_value = rw e;
-      bill_value = rw (e, ← b, ← c.obtain-bill.ensures.memory_value) (simp (c.obtain-bill.ensures.value, c.write-update.ensures.value));
-      memory_value = rw (e, ← b, ← c.offset_of-offset.ensures, ← c.obtain-bill.ensures.memory_value) c.write-update.ensures.memory_value;
-      masks_after = c.write-update.ensures.masks_after;
     }
