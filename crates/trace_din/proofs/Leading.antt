@@ -9,7 +9,7 @@ use native.Mathlib.Omega.{arith}
 use lib.ListN.{length, take, drop, get_or, length-drop}
 use lib.Seq.{drop-cons, drop-length, drop-drop, take_all}
 use lib.Dec.{leb, ltb}
-use borrow.Author.Tests.{ltb-true, ltb-false, leb-true, eq-eqb, ne_eqb}
+use borrow.Author.Tests.{ltb-true, ltb-false, leb-true, ne_eqb}
 use Rattle.std.specs.Prelude.{Some, None}
 use Rattle.std.specs.List.{prefix_len}
 use Rattle.trace_din.specs.Lines.{newline, is_text, is_digit, hex_value, is_hex, hex_digit, leading, behind, hex_number, address_digits}
@@ -152,7 +152,3 @@ digits-kept l h = kept l 0 0 (omega (arith, h)) (omega arith)
 pub is-text : (b : ℕ) → (b ≡ newline → ⊥) → is_text b ≡ true
 unfolding is_text
 is-text b d = simp (ne_eqb b newline d)
-
-pub not-text : (b : ℕ) → b ≡ newline → is_text b ≡ false
-unfolding is_text
-not-text b e = simp (eq-eqb b newline e)

@@ -80,6 +80,7 @@ struct Address {
     number: u32,
 }
 
+#[tactic(auto, using(crate::proofs::Leading::leads))]
 fn address_at(bytes: &[u8], from: usize) -> Address
     requires { from ≤ length bytes.now }
     ensures { AddressAt bytes.now from result }

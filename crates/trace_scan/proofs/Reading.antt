@@ -3,10 +3,8 @@ use Prim.Native.Nat.{ℕ, suc, ◌+◌, ◌-◌, ◌*◌, ◌^◌, ◌≤◌, �
 use mathlib.Core.Path.{◌≡◌, refl, sym, ap, ◌∙◌}
 use mathlib.Core.Bool.{Bool, true, false, ◌&&◌, cond}
 use mathlib.Core.List.{List, [], ◌∷◌, ◌++◌}
-use native.Mathlib.Numerals.{add-one}
 use native.Mathlib.Omega.{arith}
-use lib.ListN.{length, drop, get_or}
-use lib.Seq.{drop-cons, drop-length}
+use lib.ListN.{length}
 use lib.Dec.{leb, ltb}
 use borrow.Author.Tests.{lt-ltb, le-ltb, le-leb, lt-leb, ltb-true, ltb-false}
 use Rattle.trace_din.specs.Lines.{is_digit, is_blank, is_gap, hex_value, is_hex, leading, behind, hex_number, ends, address_digits, malformed, labelled, addressed, separated, parsed_line, line_limit, parsed}
@@ -195,9 +193,3 @@ width_some x b (a ∷ l) = width_some (with_byte x b) a l
 pub bytes_fold : (x : Line) (l : List ℕ) → fold with_byte x l ≡ with_bytes x l
 bytes_fold x [] = refl
 bytes_fold x (b ∷ l) = bytes_fold (with_byte x b) l
-
-pub bytes-step : (x : Line) (l : List ℕ) (i : ℕ) → i < length l → with_bytes x (drop i l) ≡ with_bytes (with_byte x (get_or l i 0)) (drop (i + 1) l)
-bytes-step x l i h = rw (add-one, drop-cons l i 0)
-
-pub bytes-end : (x : Line) (l : List ℕ) (i : ℕ) → i ≡ length l → with_bytes x (drop i l) ≡ x
-bytes-end x l i e = rw (e, drop-length)
