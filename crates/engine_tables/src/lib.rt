@@ -93,6 +93,7 @@ fn sees(
 }
 
 // The words of a block in a processor's cache; none where it is not held there.
+#[tactic(auto, using(crate::proofs::Tests::shown), unfolding(protocol_types::specs::Board::word_index))]
 pub fn look<'a>(
     setup: Setup,
     processor: u32,

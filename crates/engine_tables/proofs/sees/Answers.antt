@@ -1,16 +1,8 @@
 -- A setup that is not refused fits (setup-fits).
 use mathlib.Core.Path.{sym, ◌∙◌}
-use borrow.Author.Tests.{ne_eqb}
 use Rattle.protocol_types.proofs.Board.{setup-fits}
-use Rattle.engine_tables.specs.Entries.{seen}
-use Rattle.engine_tables.proofs.Tests.{refuses, passes}
+use Rattle.engine_tables.proofs.Tests.{passes}
 use Rattle.engine_tables.proofs.sees.Goals as goal
-
-pub returns-then-is_err : goal.returns-then-is_err
-unfolding seen
-returns-then-is_err c =
-    let refused = refuses c.check.result c.check.ensures (sym c.is_err.ensures.value ∙ c.if-is_err.true) in
-    rw (ne_eqb _ _ refused)
 
 pub slot_count-slots-requires : goal.slot_count-slots-requires
 slot_count-slots-requires c = setup-fits c.args.setup (passes c.check.result c.check.ensures (sym c.is_err.ensures.value ∙ c.if-is_err.false))
