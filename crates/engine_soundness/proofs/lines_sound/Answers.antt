@@ -3,22 +3,9 @@
 use mathlib.Core.Path.{◌≡◌, sym, ◌∙◌}
 use native.Mathlib.Omega.{arith}
 use Rattle.protocol.specs.Tables.{tables}
-use Rattle.parts.proofs.Laws.{all_more, all-false}
+use Rattle.parts.proofs.Laws.{all-false}
 use Rattle.engine_soundness.proofs.Lines.{line_test, cache_test, sound-is}
 use Rattle.engine_soundness.proofs.lines_sound.Goals as goal
-
-pub loop-l-preserved : goal.loop-l-preserved
-loop-l-preserved c =
-    let a = c.args in
-    let t = (tables a.blocks.now a.counters.now a.marks.now a.words.now a.memory.now) in
-    all_more (line_test a.setup t c.loop-i.i) c.loop-l.l c.loop-l.invariant (sym c.line_sound.ensures ∙ c.if-not-line_sound.false)
-
-pub loop-i-preserved : goal.loop-i-preserved
-loop-i-preserved c =
-    let a = c.args in
-    let t = (tables a.blocks.now a.counters.now a.marks.now a.words.now a.memory.now) in
-    let e : c.loop-l.l ≡ a.setup.lines = omega arith in
-    all_more (cache_test a.setup t) c.loop-i.i c.loop-i.invariant (rw e at c.loop-l.invariant)
 
 pub returns-then-not-line_sound : goal.returns-then-not-line_sound
 returns-then-not-line_sound c =

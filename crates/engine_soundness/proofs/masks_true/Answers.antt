@@ -2,18 +2,12 @@
 -- Assumes nothing.
 use mathlib.Core.Path.{◌≡◌, sym, ◌∙◌}
 use native.Mathlib.Omega.{arith}
-use borrow.Author.Tests.{eq-eqb, ne_eqb}
+use borrow.Author.Tests.{ne_eqb}
 use Rattle.protocol.specs.Tables.{tables}
 use Rattle.protocol.specs.Masks.{masked}
-use Rattle.parts.proofs.Laws.{all_more, all-false}
+use Rattle.parts.proofs.Laws.{all-false}
 use Rattle.engine_soundness.proofs.Lines.{mask_test, true-masks-is}
 use Rattle.engine_soundness.proofs.masks_true.Goals as goal
-
-pub loop-b-preserved : goal.loop-b-preserved
-loop-b-preserved c m w g =
-    let a = c.args in
-    let x = masked (tables a.blocks.now a.counters.now m w g) a.masks.now in
-    all_more (mask_test a.setup x) c.loop-b.b (c.loop-b.invariant m w g) (eq-eqb _ _ (c.if-masks-b.false ∙ c.block_mask.ensures m w g))
 
 pub returns-then-masks-b : goal.returns-then-masks-b
 returns-then-masks-b c m w g =
