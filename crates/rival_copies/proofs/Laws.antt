@@ -15,5 +15,5 @@ unfolding shared other another_keeps
 shared-is s r i b = refl
 
 -- an entry that is not refused names a processor
-pub names-processor : (s : Setup) (i : ℕ) (b : Block) (x : ℕ) → move_refusal s i b x ≡ 0 → i < s.processors
-names-processor s i b x e = (move-legal s i b x e).processor
+pub names_processor : (s : Setup) (i : ℕ) (b : Block) (x : ℕ) → move_refusal s i b x ≡ 0 → i < s.processors
+names_processor s i b x e = (move-legal s i b x e).processor

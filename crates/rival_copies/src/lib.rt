@@ -12,6 +12,7 @@ use protocol_types::{Block, Entry, Operation, Request, Setup};
 // ---- who has a copy
 
 // Whether slot k has a copy of a block.
+#[tactic(auto, unfolding(protocol::specs::Rival::keeps_at))]
 pub fn keeps_at(k: usize, block: Block, blocks: &[u32], held: &[u32]) -> bool
     requires { (k < length blocks.now) × (k < length held.now) }
     ensures { (m : List ℕ) → result ≡ keeps_at (rival_marked blocks.now held.now m) k block }
@@ -20,6 +21,7 @@ pub fn keeps_at(k: usize, block: Block, blocks: &[u32], held: &[u32]) -> bool
 }
 
 // Whether a processor has one.
+#[tactic(auto, unfolding(protocol::specs::Rival::keeps))]
 pub fn keeps(setup: Setup, processor: u32, block: Block, blocks: &[u32], held: &[u32]) -> bool
     requires fits { Fits setup }
     requires processor_lt_processors { processor < setup.processors }
@@ -30,6 +32,7 @@ pub fn keeps(setup: Setup, processor: u32, block: Block, blocks: &[u32], held: &
 }
 
 // Whether processor j is another one and has a copy.
+#[tactic(auto, unfolding(crate::specs::Copies::another_keeps))]
 fn another_keeps(
     setup: Setup,
     processor: u32,
@@ -63,6 +66,7 @@ pub fn shared(setup: Setup, processor: u32, block: Block, blocks: &[u32], held: 
 // ---- what an entry does to the copies
 
 // The mark of processor j's copy, if it has one, clears.
+#[tactic(auto, unfolding(protocol::specs::Rival::keeps))]
 fn unmark_copy(setup: Setup, block: Block, j: u32, blocks: &[u32], held: &[u32], marks: &mut [u32])
     requires fits { Fits setup }
     requires j_lt_processors { j < setup.processors }
@@ -87,13 +91,14 @@ fn unmark(setup: Setup, block: Block, blocks: &[u32], held: &[u32], marks: &mut 
 }
 
 // A fetch clears the block's mark elsewhere, and the new copy is unmarked.
-fn fetch<'a>(
+#[tactic(auto, unfolding(protocol::specs::Rival::rival_fetched))]
+fn fetch(
     setup: Setup,
     processor: u32,
     block: Block,
-    blocks: &'a mut [u32],
-    held: &'a mut [u32],
-    marks: &'a mut [u32],
+    blocks: &mut [u32],
+    held: &mut [u32],
+    marks: &mut [u32],
 )
     requires fits { Fits setup }
     requires processor_lt_processors { processor < setup.processors }
@@ -108,6 +113,7 @@ fn fetch<'a>(
 }
 
 // A write-back clears the mark.
+#[tactic(auto, unfolding(protocol::specs::Rival::rival_written_back))]
 fn write_back(setup: Setup, processor: u32, block: Block, marks: &mut [u32])
     requires fits { Fits setup }
     requires processor_lt_processors { processor < setup.processors }
@@ -119,13 +125,14 @@ fn write_back(setup: Setup, processor: u32, block: Block, marks: &mut [u32])
 }
 
 // A drop leaves an empty line.
-fn drop<'a>(
+#[tactic(auto, unfolding(protocol::specs::Rival::rival_dropped))]
+fn drop(
     setup: Setup,
     processor: u32,
     block: Block,
-    blocks: &'a mut [u32],
-    held: &'a mut [u32],
-    marks: &'a mut [u32],
+    blocks: &mut [u32],
+    held: &mut [u32],
+    marks: &mut [u32],
 )
     requires fits { Fits setup }
     requires processor_lt_processors { processor < setup.processors }
@@ -139,13 +146,8 @@ fn drop<'a>(
 }
 
 // A fetch, a write-back or a drop; a completion that has no request changes nothing.
-pub fn play<'a>(
-    setup: Setup,
-    entry: Entry,
-    blocks: &'a mut [u32],
-    held: &'a mut [u32],
-    marks: &'a mut [u32],
-)
+#[tactic(auto, using(crate::proofs::Laws::names_processor))]
+pub fn play(setup: Setup, entry: Entry, blocks: &mut [u32], held: &mut [u32], marks: &mut [u32])
     requires fits { Fits setup }
     requires rival_sized { RivalSized setup (rival_lent blocks.old held.old marks.old) }
     requires value { refusal setup (rival_lent blocks.old held.old marks.old) [] entry ≡ no_refusal }
@@ -180,6 +182,7 @@ fn mark_lone(
 }
 
 // A completed write marks the block where it has one holder; a read, a clear, and a completion by broadcast change nothing.
+#[tactic(auto, unfolding(protocol::specs::Rival::rival_completed))]
 pub fn play_completion(
     setup: Setup,
     request: Request,
