@@ -47,6 +47,7 @@ fn write_cycles(
 }
 
 // The cycles of a completion.
+#[tactic(auto, unfolding(protocol::specs::Rival::completion_cycles))]
 pub fn completion_cycles(
     setup: Setup,
     request: Request,
@@ -70,6 +71,7 @@ pub fn completion_cycles(
 // ---- the conditions, in the order of checks
 
 // At a fetch, a write-back or a drop 3, then 8.
+#[tactic(auto, unfolding(protocol::specs::Rival::move_refusal))]
 fn check_move(setup: Setup, processor: u32, block: Block) -> Result<(), Refusal>
     ensures { (after : ℕ) → refusal_before result after ≡ move_refusal setup processor block after }
 {
@@ -116,6 +118,7 @@ fn check_write_back(
 }
 
 // 24, then 25 at a drop.
+#[tactic(auto, unfolding(protocol::specs::Rival::keeps))]
 fn check_drop(
     setup: Setup,
     processor: u32,
@@ -241,6 +244,7 @@ fn check_ready(
 }
 
 // At a completion 3, 4, then these.
+#[tactic(auto, unfolding(protocol::specs::Rival::completion_refusal))]
 pub fn check_completion(
     setup: Setup,
     request: Request,
