@@ -18,7 +18,7 @@ use Rattle.protocol_types.specs.declared.Entry.{Entry}
 use Rattle.protocol_types.specs.declared.Refusal.{Refusal}
 use Rattle.protocol_types.specs.declared.BestSchedule.{BestSchedule}
 use Rattle.protocol_types.specs.declared.PlacedRefusal.{PlacedRefusal}
-use Rattle.protocol_types.proofs.Refusals.{first-refuses, first_passes, neither-refuses}
+use Rattle.protocol_types.proofs.Refusals.{first-refuses, first_passes, neither-refuses, number-is}
 use Rattle.best_positions.specs.Position.{asked_all, entries_from}
 use Rattle.best_positions.specs.Best.{SearchTables, position_count, search_sized, search_refusal, requests_refusal, requests_place, best_refusal, best_place, schedule, best_schedule, best_answer}
 use Rattle.best_positions.proofs.SoFar.{SearchableFacts, searchable-facts, best-found}
@@ -26,7 +26,7 @@ use Rattle.best_schedule.specs.Found.{numbers_found, best_found, tables_after}
 use Rattle.best_schedule.specs.Lent.{TablesFit}
 use Rattle.best_schedule.proofs.Found as found
 use Rattle.best_steps.specs.Steps.{lengths_fit, AreAsked, IsFirstRefused}
-use Rattle.best_steps.proofs.Checks.{checked, tables-sized, refused-so}
+use Rattle.best_steps.proofs.Checks.{checked, tables-sized}
 use Rattle.stored_lists.specs.Lists.{filled}
 use Rattle.best.specs.Lists.{entries_lent, best_stored}
 
@@ -110,14 +110,14 @@ module _ (s : Setup) (qs : List Request) (m : ℕ) (x₀ : SearchTables) (sized 
   refused : (r : PlacedRefusal) → number r.refusal ≡ best_refusal s qs sized → r.place ≡ best_place s qs sized → Ends (Err r) lent x₀
   unfolding best_answer best_stored
   refused r e p =
-      let f = refused-so r.refusal (best_refusal s qs sized) e in
+      let f = number-is r.refusal (best_refusal s qs sized) e in
       (ap (λ n. Refused n r.place) e ∙ ap (Refused (best_refusal s qs sized)) p ∙ rw f, rw f, λ d. refl)
 
   -- before the first request
   pub refused-first : (r : Refusal) → number r ≡ search_refusal s (length qs) sized → Ends (Err (record { refusal = r; place = 0 })) lent x₀
   unfolding best_refusal best_place
   refused-first r e =
-      let f = refused-so r (search_refusal s (length qs) sized) e in
+      let f = number-is r (search_refusal s (length qs) sized) e in
       let p : 0 ≡ best_place s qs sized = rw f in
       refused (record { refusal = r; place = 0 })
       (e ∙ sym (first-refuses (search_refusal s (length qs) sized) (requests_refusal s qs) (eqb-false _ _ f))) p

@@ -20,7 +20,7 @@ use Rattle.protocol_types.proofs.Conditions.{no-request}
 use Rattle.best_positions.specs.Position.{asked, asked_all}
 use Rattle.best_positions.specs.Best.{requests_refusal, requests_place}
 use Rattle.best_steps.specs.Steps.{AreAsked, IsFirstRefused}
-use Rattle.best_steps.proofs.Checks.{refused-so}
+use Rattle.protocol_types.proofs.Refusals.{number-is}
 
 -- ---- lists
 
@@ -94,7 +94,7 @@ module _ (s : Setup) (qs : List Request) (k : ℕ) (asks : List ℕ) (t : Taken 
 
   pub refused-here : (r : Refusal) → number r ≡ request_refusal s 0 q → IsFirstRefused s qs (record { refusal = r; place = k })
   refused-here r e =
-      let d : request_refusal s 0 q ≢ no_refusal = eqb-false _ _ (refused-so r _ e) in record {
+      let d : request_refusal s 0 q ≢ no_refusal = eqb-false _ _ (number-is r _ e) in record {
         refusal = e ∙ sym (t.refusal-left ∙ ap (requests_refusal s) left_is ∙ first-here (request_refusal s 0 q) (requests_refusal s (drop (suc k) qs)) d);
         place = sym (t.place-left ∙ ap (λ l. k + requests_place s l) left_is ∙ place_here (request_refusal s 0 q) (requests_place s (drop (suc k) qs)) k d);
       }

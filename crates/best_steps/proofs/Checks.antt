@@ -1,14 +1,12 @@
 -- What no refusal tells before the first request.
 use Prim.Native.Nat.{ℕ, ◌≤◌}
-use mathlib.Core.Path.{◌≡◌, refl, sym, ap, ◌∙◌}
-use mathlib.Core.Bool.{Bool, true, false, ◌&&◌}
+use mathlib.Core.Path.{◌≡◌}
+use mathlib.Core.Bool.{Bool, true, ◌&&◌}
 use native.Mathlib.Omega.{arith}
 use lib.ListN.{length}
 use lib.Dec.{leb, eqb}
 use borrow.Author.Tests.{eqb-true, leb-true}
-use Rattle.protocol_types.specs.Refusals.{no_refusal, unless, wrong_length, not_searchable, number}
-use Rattle.protocol_types.specs.declared.Refusal.{Refusal}
-use Rattle.protocol_types.specs.declared.Refusal.TheVariants.{SetupOutOfRange, WrongLength, NoSuchProcessor, NoSuchVariable, TooMany, MalformedLine, UnknownLabel, NoSuchBlock, BroadcastWithoutWrite, PriceOutOfRange, SeedZero, NotSearchable, UnsoundTables, ImpossibleAccount, AccountFull, LineInUse, BlockNotHeld, DropOfMarked, NoRequestLeft, CompletionNotHeld, RequestsLeft, CacheNotEmpty}
+use Rattle.protocol_types.specs.Refusals.{no_refusal, unless, wrong_length, not_searchable}
 use Rattle.protocol_types.specs.Board.{Fits, setup_refusal}
 use Rattle.best_positions.specs.Best.{SearchTables, position_count, group_count, searchable, search_sized, search_refusal}
 use Rattle.best_schedule.specs.Lent.{TablesFit}
@@ -46,32 +44,3 @@ tables-sized x e h =
     let a = three-true firsts (eqb (length x.lowest) group_count) (eqb e position_count) h in
     let b = three-true (eqb (length x.distances) position_count) (eqb (length x.order) position_count) (eqb (length x.predecessors) position_count) a.0 in
     (record { distances = eqb-true _ _ b.0; order = eqb-true _ _ b.1; predecessors = eqb-true _ _ b.2; lowest = eqb-true _ _ a.1 }, eqb-true _ _ a.2)
-
--- ---- a refusal's number is not 0
-
-refuses : (r : Refusal) → eqb (number r) no_refusal ≡ false
-refuses SetupOutOfRange = refl
-refuses WrongLength = refl
-refuses NoSuchProcessor = refl
-refuses NoSuchVariable = refl
-refuses TooMany = refl
-refuses MalformedLine = refl
-refuses UnknownLabel = refl
-refuses NoSuchBlock = refl
-refuses BroadcastWithoutWrite = refl
-refuses PriceOutOfRange = refl
-refuses SeedZero = refl
-refuses NotSearchable = refl
-refuses UnsoundTables = refl
-refuses ImpossibleAccount = refl
-refuses AccountFull = refl
-refuses LineInUse = refl
-refuses BlockNotHeld = refl
-refuses DropOfMarked = refl
-refuses NoRequestLeft = refl
-refuses CompletionNotHeld = refl
-refuses RequestsLeft = refl
-refuses CacheNotEmpty = refl
-
-pub refused-so : (r : Refusal) (n : ℕ) → number r ≡ n → eqb n no_refusal ≡ false
-refused-so r n e = ap (λ k. eqb k no_refusal) (sym e) ∙ refuses r

@@ -1,7 +1,7 @@
 -- What starting does in each of its cases, and what the tests on lengths and of a look tell; by the definitions and setup-fits.
 -- Assumes nothing.
 use Prim.Native.Nat.{ℕ, ◌*◌, ◌<◌}
-use mathlib.Core.Path.{◌≡◌, refl, sym, ◌∙◌}
+use mathlib.Core.Path.{◌≡◌, refl, sym}
 use mathlib.Core.Logic.{◌≢◌}
 use mathlib.Core.Bool.{true, false, true≢false, ◌&&◌, cond}
 use mathlib.Core.List.{List, []}
@@ -11,8 +11,7 @@ use borrow.Author.Tests.{eqb-true, ltb-true, ne_eqb}
 use Rattle.protocol_types.specs.Lists.{part}
 use Rattle.std.specs.Prelude.{Result, Ok, Err, is_err}
 use Rattle.protocol_types.specs.declared.Refusal.{Refusal}
-use Rattle.protocol_types.specs.declared.Refusal.TheVariants.{SetupOutOfRange, WrongLength, NoSuchProcessor, NoSuchVariable, TooMany, MalformedLine, UnknownLabel, NoSuchBlock, BroadcastWithoutWrite, PriceOutOfRange, SeedZero, NotSearchable, UnsoundTables, ImpossibleAccount, AccountFull, LineInUse, BlockNotHeld, DropOfMarked, NoRequestLeft, CompletionNotHeld, RequestsLeft, CacheNotEmpty}
-use Rattle.protocol_types.specs.Refusals.{no_refusal, unless, wrong_length, number, refusal_number}
+use Rattle.protocol_types.specs.Refusals.{no_refusal, unless, wrong_length, refusal_number}
 use Rattle.protocol_types.specs.Board.{Fits, setup_refusal, slot, slots, word_index}
 use Rattle.protocol.specs.Tables.{Sized, sized, directory, holds}
 use Rattle.protocol.specs.Masks.{Masked, fresh_masked, sized_masked}
@@ -27,35 +26,7 @@ use Rattle.engine_tables.specs.Entries.{lengths_fit, seen}
 
 -- ---- what a check answers
 
-pub some-number : (e : Refusal) → number e ≢ no_refusal
-some-number SetupOutOfRange z = cc
-some-number WrongLength z = cc
-some-number NoSuchProcessor z = cc
-some-number NoSuchVariable z = cc
-some-number TooMany z = cc
-some-number MalformedLine z = cc
-some-number UnknownLabel z = cc
-some-number NoSuchBlock z = cc
-some-number BroadcastWithoutWrite z = cc
-some-number PriceOutOfRange z = cc
-some-number SeedZero z = cc
-some-number NotSearchable z = cc
-some-number UnsoundTables z = cc
-some-number ImpossibleAccount z = cc
-some-number AccountFull z = cc
-some-number LineInUse z = cc
-some-number BlockNotHeld z = cc
-some-number DropOfMarked z = cc
-some-number NoRequestLeft z = cc
-some-number CompletionNotHeld z = cc
-some-number RequestsLeft z = cc
-some-number CacheNotEmpty z = cc
-
--- a check that answers an error refuses, and one that does not lets through
-pub refuses : {A : Type 0} (r : Result A Refusal) {n : ℕ} → refusal_number r ≡ n → is_err r ≡ true → n ≢ no_refusal
-refuses (Ok x) e f z = absurd (true≢false (sym f))
-refuses (Err r) e f z = some-number r (e ∙ z)
-
+-- a check that answers no error lets through
 pub passes : {A : Type 0} (r : Result A Refusal) {n : ℕ} → refusal_number r ≡ n → is_err r ≡ false → n ≡ no_refusal
 passes (Ok x) e f = sym e
 passes (Err r) e f = absurd (true≢false f)

@@ -3,14 +3,12 @@ use Prim.Native.Nat.{ℕ, ◌+◌}
 use native.Mathlib.Numerals.{add-one}
 use mathlib.Core.Path.{◌≡◌, refl, sym, ap, ◌∙◌}
 use mathlib.Core.Bool.{Bool, true, false}
-use mathlib.Core.Logic.{◌≢◌}
 use mathlib.Core.List.{List}
 use lib.ListN.{length, set, length-set}
-use borrow.Author.Tests.{ne_eqb}
 use Rattle.protocol_types.specs.Refusals.{no_refusal, number}
+use Rattle.protocol_types.proofs.Refusals.{number-is}
 use Rattle.protocol_types.specs.declared.Request.{Request}
 use Rattle.protocol_types.specs.declared.Refusal.{Refusal}
-use Rattle.protocol_types.specs.declared.Refusal.TheVariants.{SetupOutOfRange, WrongLength, NoSuchProcessor, NoSuchVariable, TooMany, MalformedLine, UnknownLabel, NoSuchBlock, BroadcastWithoutWrite, PriceOutOfRange, SeedZero, NotSearchable, UnsoundTables, ImpossibleAccount, AccountFull, LineInUse, BlockNotHeld, DropOfMarked, NoRequestLeft, CompletionNotHeld, RequestsLeft, CacheNotEmpty}
 use Rattle.stored_lists.specs.Lists.{filled}
 use Rattle.stored_lists.proofs.Filled.{filled-more}
 use Rattle.protocol_types.specs.Board.{Fits}
@@ -19,7 +17,7 @@ use Rattle.protocol.specs.Generator.{xorshift, request_drawn, workload, request_
 use Rattle.protocol.proofs.Generator.{length-workload, workload-more, draw_after, draw_after-suc, generate-passed}
 use Rattle.protocol_types.specs.declared.Setup.{Setup}
 use Rattle.generator.specs.Lists.{list_refusal, list_generated}
-use Rattle.generator.proofs.Refused.{partial-refuses}
+use Rattle.host_decoding.proofs.Whole.{partial-refuses}
 
 pub record Through (w : Bool) (s : Setup) (seed n : ℕ) : Type 0 where
   pub is_whole : w ≡ true
@@ -31,37 +29,12 @@ unfolding list_refusal
 goes_through true s seed n e = record { is_whole = refl; accepted = e; fits = setup-fits s (generate-passed s seed n e).accepted }
 goes_through false s seed n e = absurd (partial-refuses s e)
 
--- no refusal has the number 0
-number-refuses : (e : Refusal) → number e ≢ no_refusal
-number-refuses SetupOutOfRange z = cc
-number-refuses WrongLength z = cc
-number-refuses NoSuchProcessor z = cc
-number-refuses NoSuchVariable z = cc
-number-refuses TooMany z = cc
-number-refuses MalformedLine z = cc
-number-refuses UnknownLabel z = cc
-number-refuses NoSuchBlock z = cc
-number-refuses BroadcastWithoutWrite z = cc
-number-refuses PriceOutOfRange z = cc
-number-refuses SeedZero z = cc
-number-refuses NotSearchable z = cc
-number-refuses UnsoundTables z = cc
-number-refuses ImpossibleAccount z = cc
-number-refuses AccountFull z = cc
-number-refuses LineInUse z = cc
-number-refuses BlockNotHeld z = cc
-number-refuses DropOfMarked z = cc
-number-refuses NoRequestLeft z = cc
-number-refuses CompletionNotHeld z = cc
-number-refuses RequestsLeft z = cc
-number-refuses CacheNotEmpty z = cc
-
 -- a refusal leaves the list as it was
 pub refused-stays : {A : Type 0} (whole : List A → Bool) (records : List A → List Request) (stored : List A → ℕ → Request → List A) (s : Setup) (seed : ℕ) (l : List A)
     (e : Refusal) → number e ≡ list_refusal (whole l) s seed (length (records l)) → l ≡ list_generated whole records stored s seed l
 unfolding list_generated
 refused-stays whole records stored s seed l e is-e =
-    rw (ne_eqb (list_refusal (whole l) s seed (length (records l))) no_refusal (λ z. number-refuses e (is-e ∙ z)))
+    rw (number-is e (list_refusal (whole l) s seed (length (records l))) is-e)
 
 -- without one each request is stored
 pub all-stored : {A : Type 0} (whole : List A → Bool) (records : List A → List Request) (stored : List A → ℕ → Request → List A) (s : Setup) (seed : ℕ) (l : List A)

@@ -1,21 +1,12 @@
--- A list that is not whole is refused; and the order of the checks by example.
+-- The order of the checks by example.
 use Prim.Native.Nat.{ℕ}
 use mathlib.Core.Path.{◌≡◌, refl}
-use mathlib.Core.Logic.{◌≢◌}
 use mathlib.Core.List.{[], ◌∷◌}
-use native.Mathlib.Omega.{arith}
-use Rattle.protocol_types.specs.Refusals.{no_refusal, wrong_length}
 use Rattle.protocol_types.specs.Board.{sizes_in_range, prices_in_range, setup_refusal}
 use Rattle.protocol.specs.Generator.{generate_refusal}
 use Rattle.protocol_types.specs.declared.Setup.{Setup}
-use Rattle.protocol_types.proofs.Refusals.{neither-refuses}
 use Rattle.host_decoding.specs.Records.{whole, partial_refusal}
 use Rattle.generator.specs.Numbers.{generate_numbers_refusal}
-
--- it is not 0
-pub partial-refuses : (s : Setup) → partial_refusal s ≢ no_refusal
-unfolding partial_refusal
-partial-refuses s e = omega (arith, (neither-refuses (setup_refusal s) wrong_length e).1)
 
 -- ---- the order, by example: 2 before 11, 10 before 2, and 11 once the list is whole
 

@@ -19,7 +19,7 @@ use Rattle.host_encoding.specs.Numbers.{request_numbers, list_numbers}
 use Rattle.host_encoding.proofs.Numbers.{length-numbers, named_back}
 use Rattle.host_numbers.specs.Numbers.{run_numbers}
 use Rattle.generator.specs.Numbers.{generate_numbers_refusal, generated_numbers}
-use Rattle.generator.proofs.Refused.{partial-refuses}
+use Rattle.host_decoding.proofs.Whole.{partial-refuses}
 use Rattle.host_claims.specs.Claims.{NumbersRepeatable}
 
 -- the numbers of a list's front

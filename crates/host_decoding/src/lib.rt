@@ -4,7 +4,7 @@
 ghost use Rattle.std.specs.Prelude.{◌≡◌, ◌/◌, ◌<◌, cond, length};
 ghost use Rattle.protocol_types.specs.Board.{setup_refusal};
 ghost use Rattle.protocol_types.specs.Refusals.{refusal_number};
-ghost use Rattle.host_decoding.specs.Records.{request_width, entry_width, whole, both_whole, partial_refusal, operation_of, request_of, request_at, requests_of, entry_of, entry_at, entries_of};
+ghost use Rattle.host_decoding.specs.Records.{request_width, entry_width, whole, partial_refusal, operation_of, request_of, request_at, requests_of, entry_of, entry_at, entries_of};
 
 use protocol_types::{Block, Entry, Operation, Refusal, Request, Setup, Variable};
 
@@ -21,13 +21,6 @@ pub fn is_whole(numbers: &[u32], width: usize) -> bool
     ensures { result ≡ whole width numbers.now }
 {
     numbers.len() % width == 0
-}
-
-// Whether lists of requests and of entries are both whole.
-pub fn are_whole(requests: &[u32], entries: &[u32]) -> bool
-    ensures { result ≡ both_whole requests.now entries.now }
-{
-    is_whole(requests, REQUEST_WIDTH) && is_whole(entries, ENTRY_WIDTH)
 }
 
 // Whether the setup is refused, or else, by 2, a list that is not whole.

@@ -10,6 +10,7 @@ use Rattle.std.specs.Prelude.{Result, IsErrAnd}
 use Rattle.std.proofs.lemmas.Result.{err_from_is_err_and}
 use Rattle.protocol_types.specs.Refusals.{no_refusal, first_of, number, refusal_before}
 use Rattle.protocol_types.specs.declared.Refusal.{Refusal}
+use Rattle.protocol_types.specs.declared.Refusal.TheVariants.{SetupOutOfRange, WrongLength, NoSuchProcessor, NoSuchVariable, TooMany, MalformedLine, UnknownLabel, NoSuchBlock, BroadcastWithoutWrite, PriceOutOfRange, SeedZero, NotSearchable, UnsoundTables, ImpossibleAccount, AccountFull, LineInUse, BlockNotHeld, DropOfMarked, NoRequestLeft, CompletionNotHeld, RequestsLeft, CacheNotEmpty}
 
 module _ (n m : ℕ) where
   pub first-refuses : n ≢ no_refusal → first_of n m ≡ n
@@ -29,6 +30,42 @@ module _ (n m : ℕ) where
 -- what a number that code got, and that refuses, tells of the conditions that it stands for
 pub code-refuses : (n r : ℕ) → r ≡ n → r ≢ no_refusal → eqb n no_refusal ≡ false
 code-refuses n r is-n d = ne_eqb n no_refusal (λ e. d (is-n ∙ e))
+
+-- ---- a refusal's number is not 0
+
+pub number-refuses : (r : Refusal) → eqb (number r) no_refusal ≡ false
+number-refuses SetupOutOfRange = refl
+number-refuses WrongLength = refl
+number-refuses NoSuchProcessor = refl
+number-refuses NoSuchVariable = refl
+number-refuses TooMany = refl
+number-refuses MalformedLine = refl
+number-refuses UnknownLabel = refl
+number-refuses NoSuchBlock = refl
+number-refuses BroadcastWithoutWrite = refl
+number-refuses PriceOutOfRange = refl
+number-refuses SeedZero = refl
+number-refuses NotSearchable = refl
+number-refuses UnsoundTables = refl
+number-refuses ImpossibleAccount = refl
+number-refuses AccountFull = refl
+number-refuses LineInUse = refl
+number-refuses BlockNotHeld = refl
+number-refuses DropOfMarked = refl
+number-refuses NoRequestLeft = refl
+number-refuses CompletionNotHeld = refl
+number-refuses RequestsLeft = refl
+number-refuses CacheNotEmpty = refl
+
+pub some-number : (r : Refusal) → number r ≢ no_refusal
+some-number r = eqb-false _ _ (number-refuses r)
+
+pub number-is : (r : Refusal) (n : ℕ) → number r ≡ n → eqb n no_refusal ≡ false
+number-is r n e = rw (← e) (number-refuses r)
+
+-- so no condition after it counts
+pub number-first : (r : Refusal) (after : ℕ) → first_of (number r) after ≡ number r
+number-first r after = rw (number-refuses r)
 
 -- ---- what a check answers, at the exit of a `?`
 

@@ -3,6 +3,7 @@
 
 ghost use Rattle.std.specs.Prelude.{◌≡◌, ℕ, ◌*◌, ◌<◌};
 ghost use Rattle.protocol_types.specs.Board.{within, sizes_in_range, prices_in_range, setup_refusal, fetch_price, write_back_price, most_write_back, Fits, variables, block_of, offset_of, line_of, slots, line_slot, Placed};
+ghost use Rattle.protocol_types.specs.Answers.{ended_with};
 ghost use Rattle.protocol_types.specs.Refusals.{number, refusal_number, refusal_before};
 ghost use Rattle.protocol_types.specs.Conditions.{variable_refusal, named_refusal, request_refusal};
 
@@ -41,11 +42,31 @@ impl Refusal {
     }
 }
 
+// The number of what a check answers; 0 where nothing is refused.
+pub fn refusal_number(answer: Result<(), Refusal>) -> u32
+    ensures { result ≡ refusal_number answer }
+{
+    match answer {
+        Ok(()) => 0,
+        Err(refusal) => refusal.number(),
+    }
+}
+
 // A refusal, and the place that it names.
 #[derive(Clone, Copy, PartialEq, Eq)]
 pub struct PlacedRefusal {
     pub refusal: Refusal,
     pub place: usize,
+}
+
+// The number of what refused a run, a price or a trace; 0 where nothing did.
+pub fn placed_number(refused: Option<PlacedRefusal>) -> u32
+    ensures { (n : ℕ) → result ≡ (ended_with n refused).refusal }
+{
+    match refused {
+        Some(placed) => placed.refusal.number(),
+        None => 0,
+    }
 }
 
 // The most requests that an account or the pricer takes, and the generator makes.

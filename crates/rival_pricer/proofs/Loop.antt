@@ -28,7 +28,7 @@ use Rattle.protocol.specs.Accounts.{nothing, plus, cycles}
 use Rattle.protocol.specs.Rival.{Rival, RivalSized, no_copies, played, left, cost, refusal, end_refusal}
 use Rattle.protocol.specs.Pricer.{Verdict, accepted, refused, ending, judged, verdict, answer_to, copies_after}
 use Rattle.protocol.proofs.Rival.{sized-no_copies, sized-played}
-use Rattle.rival_pricing.proofs.Laws.{number-refuses}
+use Rattle.protocol_types.proofs.Refusals.{number-refuses}
 use Rattle.rival_schedule.proofs.Laws.{cheap}
 use Rattle.rival_pricer.specs.Priced.{completes}
 

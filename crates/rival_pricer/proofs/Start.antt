@@ -2,13 +2,14 @@
 -- Assumes nothing.
 use Prim.Native.Nat.{ℕ}
 use mathlib.Core.Path.{◌≡◌, refl, sym, ap, subst, ◌∙◌}
-use mathlib.Core.Bool.{Bool, true, false}
+use mathlib.Core.Bool.{Bool, true, false, cond}
 use mathlib.Core.List.{List}
 use lib.ListN.{length}
 use borrow.Author.Tests.{eq-eqb}
 use Rattle.std.specs.Prelude.{Result, Ok, Err, MatchResult, IsErrAnd}
 use Rattle.std.proofs.lemmas.Result.{err_from_is_err_and}
 use Rattle.protocol_types.specs.Refusals.{no_refusal, number}
+use Rattle.protocol_types.specs.Board.{setup_refusal}
 use Rattle.protocol_types.specs.Answers.{PriceAnswer, Refused}
 use Rattle.protocol_types.specs.declared.Setup.{Setup}
 use Rattle.protocol_types.specs.declared.Request.{Request}
@@ -18,7 +19,7 @@ use Rattle.protocol.specs.Rival.{Rival, no_copies}
 use Rattle.protocol.specs.Pricer.{Verdict, accepted, refused, verdict, price_refusal, answer_to, price, copies_after, price_tables, in_numbers}
 use Rattle.protocol.proofs.Pricer.{PricePassed, price-passed, price-numbers}
 use Rattle.host_decoding.specs.Records.{partial_refusal}
-use Rattle.rival_pricing.proofs.Laws.{number-refuses}
+use Rattle.protocol_types.proofs.Refusals.{number-refuses, number-first}
 use Rattle.rival_pricer.specs.Priced.{price_of_lists, price_in_numbers_of_lists, price_tables_of_lists}
 
 -- what `map_err` made of an answer tells it
@@ -73,9 +74,11 @@ module _ (s : Setup) (r : Rival) (qs : List Request) (es : List Entry) where
   Priced w a t =
       (a ≡ price_of_lists s r w qs es) × (in_numbers a ≡ price_in_numbers_of_lists s r w qs es) × (t ≡ price_tables_of_lists s r w qs es)
 
-  pub price-partial : {w : Bool} → w ≡ false → {n : ℕ} → n ≡ partial_refusal s → Priced w (Refused n 0) r
-  price-partial e is = (rw (e, is), rw (e, is), rw e)
-
   pub price-whole : {w : Bool} → w ≡ true → {a : PriceAnswer} {t : Rival}
       → (a ≡ price s r qs es) × (t ≡ price_tables s r qs es) → Priced w a t
   price-whole e p = (rw e p.0, rw e (ap in_numbers p.0 ∙ price-numbers s r qs es), rw e p.1)
+
+  pub price-refused : (w : Bool) (x : Refusal) → number x ≡ cond w (setup_refusal s) (partial_refusal s) → Priced w (Refused (number x) 0) r
+  unfolding price_refusal
+  price-refused true x e = price-whole refl (start-refused s r qs es _ _ refl refl x (rw (← e) (sym (number-first x _))))
+  price-refused false x e = (rw e, rw e, refl)

@@ -2,13 +2,11 @@
 #![tactic(auto)]
 
 ghost use Rattle.std.specs.Prelude.{◌≡◌, ◌≤◌, ◌&&◌, length, take, drop};
-ghost use Rattle.protocol_types.specs.Refusals.{number};
 ghost use Rattle.protocol_types.specs.Board.{Fits};
 ghost use Rattle.protocol_types.specs.Answers.{price_answer};
 ghost use Rattle.protocol.specs.Rival.{no_copies};
 ghost use Rattle.protocol.specs.Pricer.{price_entry_limit, verdict, price as priced, price_tables, in_numbers};
 ghost use Rattle.rival_copies.specs.Copies.{rival_lent};
-ghost use Rattle.host_decoding.specs.Records.{partial_refusal};
 ghost use Rattle.rival_schedule.specs.Played.{next_alone};
 ghost use Rattle.rival_pricer.specs.Priced.{completes, Judged, price_of_lists, price_in_numbers_of_lists, price_tables_of_lists};
 
@@ -107,16 +105,6 @@ fn are_whole<C: Stores<Request>, D: Stores<Entry>>(entries: &[D], requests: &[C]
     C::is_whole(requests) && D::is_whole(entries)
 }
 
-// Why lists of which one is not whole are refused: the setup's refusal, or else 2.
-fn partial_refusal(setup: Setup) -> Refusal
-    ensures { number result ≡ partial_refusal setup }
-{
-    match setup.check() {
-        Ok(()) => Refusal::WrongLength,
-        Err(refusal) => refusal,
-    }
-}
-
 // The price of a schedule for the requests; lists that are not whole are refused.
 pub fn price<C: Stores<Request>, D: Stores<Entry>>(
     setup: Setup,
@@ -130,11 +118,8 @@ pub fn price<C: Stores<Request>, D: Stores<Entry>>(
         × (in_numbers (price_answer result) ≡ price_in_numbers_of_lists setup (rival_lent blocks.old held.old marks.old) (C.whole requests.now && D.whole entries.now) (C.records requests.now) (D.records entries.now))
         × (rival_lent blocks.new held.new marks.new ≡ price_tables_of_lists setup (rival_lent blocks.old held.old marks.old) (C.whole requests.now && D.whole entries.now) (C.records requests.now) (D.records entries.now)) }
 {
-    if !are_whole(entries, requests) {
-        return Err(PlacedRefusal {
-            refusal: partial_refusal(setup),
-            place: 0,
-        });
+    if let Err(refusal) = host_decoding::check_whole(setup, are_whole(entries, requests)) {
+        return Err(PlacedRefusal { refusal, place: 0 });
     }
     price_whole(setup, blocks, held, marks, entries, requests)
 }

@@ -1,49 +1,20 @@
 -- What a request that is served leaves is ready for the next one, and the account has room for it: of any engine.
 -- Assumes nothing.
 use Prim.Native.Nat.{ℕ, ◌+◌, ◌≤◌, ◌<◌}
-use mathlib.Core.Path.{◌≡◌, refl}
-use mathlib.Core.Bool.{false}
+use mathlib.Core.Path.{◌≡◌}
 use mathlib.Core.List.{List}
 use native.Mathlib.Omega.{arith}
 use lib.ListN.{length}
-use lib.Dec.{eqb}
-use Rattle.protocol_types.specs.Refusals.{no_refusal, number}
+use Rattle.protocol_types.specs.Refusals.{no_refusal}
 use Rattle.protocol_types.specs.Board.{Fits}
 use Rattle.protocol_types.specs.Conditions.{request_limit}
 use Rattle.protocol.specs.Accounts.{plus, entered, bill_of, Spent}
 use Rattle.protocol.specs.Engines.{Engine}
-use Rattle.protocol_types.specs.declared.Refusal.{Refusal}
-use Rattle.protocol_types.specs.declared.Refusal.TheVariants.{SetupOutOfRange, WrongLength, NoSuchProcessor, NoSuchVariable, TooMany, MalformedLine, UnknownLabel, NoSuchBlock, BroadcastWithoutWrite, PriceOutOfRange, SeedZero, NotSearchable, UnsoundTables, ImpossibleAccount, AccountFull, LineInUse, BlockNotHeld, DropOfMarked, NoRequestLeft, CompletionNotHeld, RequestsLeft, CacheNotEmpty}
 use Rattle.protocol_types.specs.declared.Setup.{Setup}
 use Rattle.protocol_types.specs.declared.Account.{Account}
 use Rattle.protocol.proofs.Accounts.{spent-plus, spent-numbers, possible-is, is-possible}
 use Rattle.protocol.proofs.Engines.{Serving}
 use Rattle.run_progress.specs.Progress.{Room, Ready}
-
--- a refusal's number is not that of none
-pub number_refuses : (r : Refusal) → eqb (number r) no_refusal ≡ false
-number_refuses SetupOutOfRange = refl
-number_refuses WrongLength = refl
-number_refuses NoSuchProcessor = refl
-number_refuses NoSuchVariable = refl
-number_refuses TooMany = refl
-number_refuses MalformedLine = refl
-number_refuses UnknownLabel = refl
-number_refuses NoSuchBlock = refl
-number_refuses BroadcastWithoutWrite = refl
-number_refuses PriceOutOfRange = refl
-number_refuses SeedZero = refl
-number_refuses NotSearchable = refl
-number_refuses UnsoundTables = refl
-number_refuses ImpossibleAccount = refl
-number_refuses AccountFull = refl
-number_refuses LineInUse = refl
-number_refuses BlockNotHeld = refl
-number_refuses DropOfMarked = refl
-number_refuses NoRequestLeft = refl
-number_refuses CompletionNotHeld = refl
-number_refuses RequestsLeft = refl
-number_refuses CacheNotEmpty = refl
 
 -- what a run's refusal number 0 tells
 pub record Passed {T : Type 0} (s : Setup) (Good : T → Type 0) (t : T) (a : Account) (n : ℕ) (vs : List ℕ) : Type 0 where

@@ -1,14 +1,13 @@
 -- What a run's checks tell, and that the engine serves every request on tables that it can use, with their true masks: so protocol's and run_progress' laws hold of it.
 -- Assumes nothing.
 use Prim.Native.Nat.{ℕ, ◌<◌}
-use mathlib.Core.Path.{◌≡◌, refl, sym}
-use mathlib.Core.Bool.{Bool, true, false, cond}
+use mathlib.Core.Path.{◌≡◌, refl}
 use mathlib.Core.List.{List}
 use native.Mathlib.Decide.{dec_lt}
 use native.Mathlib.Omega.{arith}
 use lib.ListN.{get_or-eq_default}
-use Rattle.protocol_types.specs.Refusals.{no_refusal, wrong_length}
-use Rattle.protocol_types.specs.Board.{Fits, slots, setup_refusal}
+use Rattle.protocol_types.specs.Refusals.{no_refusal}
+use Rattle.protocol_types.specs.Board.{Fits, slots}
 use Rattle.protocol.specs.Tables.{Tables, counter, block}
 use Rattle.protocol.specs.Masks.{Masked}
 use Rattle.protocol.specs.Soundness.{Sound}
@@ -18,8 +17,6 @@ use Rattle.protocol_types.specs.declared.Setup.{Setup}
 use Rattle.protocol_types.specs.declared.Account.{Account}
 use Rattle.protocol_types.proofs.Laws.{Same, same, apart, same?}
 use Rattle.protocol_types.proofs.Board.{setup-fits}
-use Rattle.protocol_types.proofs.Refusals.{neither-refuses}
-use Rattle.host_decoding.specs.Records.{partial_refusal}
 use Rattle.protocol.proofs.Checked.{passed-sound}
 use Rattle.protocol_types.proofs.Conditions.{request-passed}
 use Rattle.protocol.proofs.Requests.{bill-spent}
@@ -52,12 +49,6 @@ run-passed s x a n vs e =
     let f = setup-fits s d.setup in
     let u = usable-sound s f x.tables (passed-sound s f x.tables d.sizes d.tables) in
     record { ready = record { fits = f; good = record { tables = u; masks = c.masks }; account = d.account }; values = d.values }
-
--- a list that is not whole is always refused
-pub passed-whole : (s : Setup) (whole : Bool) → no_refusal ≡ cond whole (setup_refusal s) (partial_refusal s) → (whole ≡ true) × (setup_refusal s ≡ no_refusal)
-unfolding partial_refusal
-passed-whole s true e = (refl, sym e)
-passed-whole s false e = let d : ◌≡◌ {A = ℕ} wrong_length no_refusal = (neither-refuses (setup_refusal s) wrong_length (sym e)).1 in absurd (omega (arith, d))
 
 -- ---- each request is served
 

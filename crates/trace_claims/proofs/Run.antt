@@ -6,9 +6,9 @@ use mathlib.Core.Bool.{Bool, true, false, cond}
 use mathlib.Core.List.{List, [], ◌∷◌, ◌++◌}
 use lib.Dec.{eqb}
 use lib.ListN.{length}
-use borrow.Author.Tests.{eq-eqb, ne_eqb}
+use borrow.Author.Tests.{eq-eqb}
 use Rattle.protocol_types.specs.Lists.{tail}
-use Rattle.protocol_types.specs.Refusals.{no_refusal, number, first_of}
+use Rattle.protocol_types.specs.Refusals.{no_refusal, first_of}
 use Rattle.protocol.specs.Tables.{Tables, fresh}
 use Rattle.protocol.specs.Masks.{fresh_masked}
 use Rattle.protocol_types.specs.Conditions.{request_refusal}
@@ -23,7 +23,8 @@ use Rattle.trace_din.specs.Lines.{lines_of, parsed}
 use Rattle.trace_lines.specs.Trace.{trace_setup, interpreted, line_refusal, after_request, after_line, Ended, ended_at, traced, ended, report}
 use Rattle.std.specs.Prelude.{Result, Ok, Err}
 use Rattle.protocol_types.specs.declared.Refusal.{Refusal}
-use Rattle.trace_lines.proofs.Laws.{trace-passes, refuses}
+use Rattle.trace_lines.proofs.Laws.{trace-passes}
+use Rattle.protocol_types.proofs.Refusals.{number-refuses}
 use Rattle.trace_claims.specs.Requests.{form_refusal, line_requests, requests_from, trace_requests, form_refusal_from, form_refusal_of}
 use Rattle.trace_claims.specs.Claims.{Covered}
 
@@ -61,7 +62,7 @@ line-agrees : (w : State Tables) (n : ℕ) (y : Result Request Refusal) (ls : Li
     → Agrees (first_of (form_refusal y) (form_refusal_from (n + 1) ls))
     (cond (eqb (line_refusal w y) no_refusal) (traced (after_line w y) (n + 1) ls) (ended_at w (line_refusal w y) n))
     (on_from w (cond (eqb (form_refusal y) no_refusal) (line_requests y ++ requests_from (n + 1) ls) []) vs)
-line-agrees w n (Err r) ls vs ih = rw (ne_eqb (number r) no_refusal (refuses r)) (record { account = refl; tables = refl; refusal = refl })
+line-agrees w n (Err r) ls vs ih = rw (number-refuses r) (record { account = refl; tables = refl; refusal = refl })
 line-agrees w n (Ok q) ls vs ih = request-agrees w n q ls vs ih (eqb (request_refusal trace_setup w.account.requests q) no_refusal) refl
 
 agrees : (ls : List (List ℕ)) → Rest ls

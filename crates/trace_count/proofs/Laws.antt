@@ -5,7 +5,7 @@ use mathlib.Core.Path.{◌≡◌, refl, ap, ◌∙◌}
 use mathlib.Core.Bool.{true, false}
 use native.Mathlib.Omega.{arith}
 use lib.Dec.{eqb}
-use borrow.Author.Tests.{eqb-true, ne_eqb}
+use borrow.Author.Tests.{eqb-true}
 use Rattle.std.specs.Prelude.{Option, Some, None, Result, Ok, Err, is_some, MatchOption, IsSomeAnd}
 use Rattle.protocol_types.specs.Refusals.{no_refusal, number}
 use Rattle.protocol_types.specs.declared.Refusal.{Refusal}
@@ -17,6 +17,7 @@ use Rattle.protocol_types.specs.declared.Request.{Request}
 use Rattle.protocol_types.specs.declared.Bill.{Bill}
 use Rattle.protocol_types.specs.declared.Account.{Account}
 use Rattle.protocol_types.proofs.Laws.{choice}
+use Rattle.protocol_types.proofs.Refusals.{number-refuses, some-number, number-is}
 use Rattle.protocol.proofs.Accounts.{spent-plus}
 use Rattle.protocol_types.proofs.Conditions.{request-passed}
 use Rattle.protocol.proofs.Requests.{bill-spent}
@@ -25,7 +26,7 @@ use Rattle.trace_scan.specs.Automaton.{new_line}
 use Rattle.trace_scan.specs.declared.Line.{Line}
 use Rattle.trace_lines.specs.Trace.{trace_setup, line_refusal, after_request, after_line, report_numbers}
 use Rattle.trace_lines.specs.declared.RefusedLine.{RefusedLine}
-use Rattle.trace_lines.proofs.Laws.{trace-fits, refuses}
+use Rattle.trace_lines.proofs.Laws.{trace-fits}
 use Rattle.trace_count.specs.Counting.{CountNumbers, CountStage, stage, count_stage, count_numbers, refusal_or_none, state_of, line_refused, going_on, line_counted, reported, Countable, AtStart}
 use Rattle.trace_count.specs.declared.Count.{Count}
 
@@ -35,7 +36,7 @@ use Rattle.trace_count.specs.declared.Count.{Count}
 countable-line : (x : CountStage) (y : Result Request Refusal) → Countable x → line_refusal (state_of x) y ≡ no_refusal
     → Countable (going_on (x.count.line_number + 1) (after_line (state_of x) y))
 unfolding after_request
-countable-line x (Err f) r e = absurd (refuses f e)
+countable-line x (Err f) r e = absurd (some-number f e)
 countable-line x (Ok q) r e =
     let a = x.count.account in
     let c = bill trace_setup x.tables q in
@@ -70,7 +71,7 @@ pub counted-refused : (x : CountStage) (y : Result Request Refusal) (r : Refusal
     → count_stage c x.tables ≡ line_counted x y
 unfolding line_counted
 counted-refused x y r c p e =
-    let f : eqb (line_refusal (state_of x) y) no_refusal ≡ false = ne_eqb _ _ (λ (z : line_refusal (state_of x) y ≡ no_refusal). refuses r (e ∙ z)) in
+    let f : eqb (line_refusal (state_of x) y) no_refusal ≡ false = number-is r _ e in
     simp (p, e, f)
 
 -- a request that is taken
@@ -88,7 +89,7 @@ module _ (c : CountNumbers) (Q : Refusal → RefusedLine → Type 0) (current : 
   some-reported : (r : Refusal) (o : Option RefusedLine) → c.refusal ≡ number r → IsSomeAnd o (Q r) → report_numbers (record { account = c.account; refused = o }) ≡ reported c
   unfolding reported
   some-reported r None e h = absurd h
-  some-reported r (Some y) e h = simp (e, current r y h, ne_eqb (number r) no_refusal (refuses r))
+  some-reported r (Some y) e h = simp (e, current r y h, number-refuses r)
 
   pub reported-of : (r : Option Refusal) (o : Option RefusedLine) → c.refusal ≡ refusal_or_none r → MatchOption r (o ≡ None) (λ x. IsSomeAnd o (Q x))
       → report_numbers (record { account = c.account; refused = o }) ≡ reported c
@@ -100,7 +101,7 @@ module _ (c : CountNumbers) (Q : Refusal → RefusedLine → Type 0) (current : 
 
 pub some_refuses : (o : Option Refusal) → is_some o ≡ true → refusal_or_none o ≡ no_refusal → ⊥
 some_refuses None h = absurd cc
-some_refuses (Some r) h = refuses r
+some_refuses (Some r) h = some-number r
 
 pub none_passes : (o : Option Refusal) → is_some o ≡ false → refusal_or_none o ≡ no_refusal
 none_passes None h = refl

@@ -4,8 +4,8 @@ use mathlib.Core.Path.{sym, ◌∙◌}
 use Rattle.protocol.specs.Tables.{tables, fresh}
 use Rattle.protocol.specs.Masks.{masked, fresh_masked}
 use Rattle.protocol_types.proofs.Board.{setup-fits}
-use Rattle.protocol_types.proofs.Refusals.{refusal-at_exit}
-use Rattle.engine_tables.proofs.Tests.{some-number, start-refused, start-unsized, start-filled, sized-is, passed-lengths}
+use Rattle.protocol_types.proofs.Refusals.{refusal-at_exit, some-number}
+use Rattle.engine_tables.proofs.Tests.{start-refused, start-unsized, start-filled, sized-is, passed-lengths}
 use Rattle.engine_tables.proofs.start.Goals as goal
 
 pub returns-in_err-check : goal.returns-in_err-check

@@ -3,9 +3,8 @@ use mathlib.Core.Path.{sym}
 use Rattle.std.proofs.Common.{rules}
 use Rattle.protocol_types.specs.Refusals.{no_refusal}
 use Rattle.protocol_types.proofs.Board.{setup-fits}
-use Rattle.protocol_types.proofs.Refusals.{refusal-at_exit}
+use Rattle.protocol_types.proofs.Refusals.{refusal-at_exit, number-first}
 use Rattle.protocol.specs.Pricer.{price_refusal}
-use Rattle.rival_pricing.proofs.Laws.{number-first}
 use Rattle.rival_pricing.proofs.price_refusal.Goals as goal
 
 pub returns-in_err-check : goal.returns-in_err-check

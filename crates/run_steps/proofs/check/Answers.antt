@@ -13,18 +13,17 @@ use Rattle.protocol_types.specs.Board.{setup_refusal}
 use Rattle.protocol_types.specs.declared.Refusal.{Refusal}
 use Rattle.protocol_types.specs.declared.Setup.{Setup}
 use Rattle.protocol_types.specs.declared.Account.{Account}
-use Rattle.protocol_types.proofs.Refusals.{refusal-at_exit}
+use Rattle.protocol_types.proofs.Refusals.{refusal-at_exit, number-refuses}
 use Rattle.protocol.specs.Masks.{Masked, masked}
 use Rattle.host_decoding.specs.Records.{partial_refusal}
-use Rattle.run_progress.proofs.Laws.{number_refuses}
 use Rattle.run_steps.specs.Stored.{stored_refusal}
-use Rattle.run_steps.proofs.Laws.{passed-whole}
+use Rattle.host_decoding.proofs.Whole.{passed-whole}
 use Rattle.run_steps.proofs.check.Goals as goal
 
 -- a setup's refusal comes first
 setup-first : (s : Setup) (x : Masked) (a : Account) (whole : Bool) (n : ℕ) (vs : List ℕ) (r : Refusal) → number r ≡ cond whole (setup_refusal s) (partial_refusal s) → number r ≡ stored_refusal s x a whole n vs
 unfolding masked_refusal
-setup-first s x a true n vs r e = rw (sym e, number_refuses r) refl
+setup-first s x a true n vs r e = rw (sym e, number-refuses r) refl
 setup-first s x a false n vs r e = e
 
 pub returns-in_err-check_whole : goal.returns-in_err-check_whole

@@ -2,7 +2,7 @@
 -- true masks (`fresh-with-masks`).
 use mathlib.Core.Path.{refl, sym, ◌∙◌}
 use Rattle.trace_lines.specs.Trace.{trace_setup}
-use Rattle.engine_tables.proofs.Tests.{some-number}
+use Rattle.protocol_types.proofs.Refusals.{some-number}
 use Rattle.trace.proofs.Laws.{fresh-with-masks, not-started, now-started, ended-started}
 use Rattle.trace.proofs.count_trace.Goals as goal
 
