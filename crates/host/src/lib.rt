@@ -18,7 +18,7 @@ ghost use Rattle.best_schedule.specs.Lent.{search_lent};
 ghost use Rattle.host_numbers.specs.Numbers.{account_of, run_numbers, price_in_numbers, price_tables_of_numbers};
 ghost use Rattle.host.specs.Host.{host_version, setup_of, block_numbered, report_of};
 
-use protocol_types::{Account, Block, PlacedRefusal, Setup};
+use protocol_types::{Account, Block, PlacedRefusal, Setup, refusal_number};
 
 // It counts the changes of these functions' signatures and meanings, and the functions that are added.
 const VERSION: u32 = 6;
@@ -80,10 +80,8 @@ pub extern "C" fn cuzkelor_start(
         fetch_price,
         write_back_price,
     );
-    match engine_tables::start(setup, blocks, counters, marks, words, memory, masks) {
-        Ok(()) => 0,
-        Err(refusal) => refusal.number(),
-    }
+    let answer = engine_tables::start(setup, blocks, counters, marks, words, memory, masks);
+    refusal_number(answer)
 }
 
 // The length of the part of the words that a look at a block shows; 0 where it is not held.
@@ -356,10 +354,7 @@ pub extern "C" fn cuzkelor_generate(
         fetch_price,
         write_back_price,
     );
-    match generator::generate(setup, seed, requests) {
-        Ok(()) => 0,
-        Err(refusal) => refusal.number(),
-    }
+    refusal_number(generator::generate(setup, seed, requests))
 }
 
 // A whole trace on tables that are started here. The refusal number, or 0.

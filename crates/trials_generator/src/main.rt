@@ -9,7 +9,7 @@ mod setups;
 mod shown;
 
 use crate::layout::{OTHER, REAL, ROOM, WANTED, WIDTH};
-use protocol_types::{Refusal, Setup};
+use protocol_types::{Refusal, Setup, refusal_number};
 use trials_cells::cells::{Cells, differences, product, quotient, remainder, sum};
 use trials_cells::state;
 use trials_cells::state::{Difference, Kind, between, draw};
@@ -26,13 +26,6 @@ const LISTS: u32 = 8000;
 const LENGTHS: u32 = 400;
 
 const REQUESTS: u32 = 300;
-
-fn refusal_number(answer: Result<(), Refusal>) -> u32 {
-    match answer {
-        Ok(()) => 0,
-        Err(refusal) => refusal.number(),
-    }
-}
 
 // What a list differed in, of whose numbers `unlike` are not those that are wanted.
 fn difference(

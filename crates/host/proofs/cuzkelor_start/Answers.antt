@@ -2,12 +2,9 @@
 use mathlib.Core.Path.{◌∙◌}
 use Rattle.host.proofs.cuzkelor_start.Goals as goal
 
-pub returns-in-Ok : goal.returns-in-Ok
-returns-in-Ok c = rw c.setup_of-setup.ensures at c.in-Ok.ensures
-
-pub returns-in-Err : goal.returns-in-Err
-returns-in-Err c =
-    let started = rw c.setup_of-setup.ensures at c.in-Err.ensures in record {
-      value = c.number.ensures ∙ started.value;
+pub returns : goal.returns
+returns c =
+    let started = rw c.setup_of-setup.ensures at c.start-answer.ensures in record {
+      value = c.refusal_number.ensures ∙ started.value;
       masks_value = started.masks_value;
     }
