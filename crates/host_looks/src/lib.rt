@@ -7,6 +7,7 @@ ghost use Rattle.host_looks.specs.Looks.{look_length, look_offset};
 use protocol_types::{Block, Setup};
 
 // The length of the part of the words that a look shows.
+#[tactic(auto, unfolding(crate::specs::Looks::look_length))]
 pub fn look_length(
     setup: Setup,
     processor: u32,
@@ -22,6 +23,7 @@ pub fn look_length(
 }
 
 // Where that part begins.
+#[tactic(auto, using(crate::proofs::Looks::shows))]
 pub fn look_offset(
     setup: Setup,
     processor: u32,
