@@ -1,6 +1,6 @@
 // What came of a case on two sides: by the entry over records and by the one over numbers. What one side has the other must
 // have too.
-use protocol_types::{Account, PlacedRefusal};
+use protocol_types::{Account, PlacedRefusal, placed_number};
 use trials_cells::cells::Cells;
 use trials_cells::state;
 use trials_cells::state::{Difference, Kind};
@@ -14,16 +14,9 @@ pub struct Side {
     pub account: Account,
 }
 
-fn refusal_number(refused: Option<PlacedRefusal>) -> u32 {
-    match refused {
-        Some(refused) => refused.refusal.number(),
-        None => 0,
-    }
-}
-
 // What the sides differ in; `same` is whether they left the same tables or list.
 fn difference(records: Side, numbers: Side, same: bool) -> Option<Difference> {
-    if refusal_number(records.refused) != refusal_number(numbers.refused) {
+    if placed_number(records.refused) != placed_number(numbers.refused) {
         return Some(Difference::Refusal);
     }
     if records.refused != numbers.refused {
@@ -60,7 +53,7 @@ pub(crate) fn judge(
     same: bool,
 ) {
     let what = difference(records, numbers, same);
-    let number = refusal_number(records.refused);
+    let number = placed_number(records.refused);
     state::record(rt, cells, kind, case, number, what);
     state::add(cells, state::REQUESTS, small(records.taken));
     state::add(cells, state::CYCLES, records.cost);

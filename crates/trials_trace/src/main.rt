@@ -9,6 +9,7 @@ mod text;
 
 use crate::entry::Counted;
 use crate::reading::Reading;
+use protocol_types::placed_number;
 use trials_cells::cells::Cells;
 use trials_cells::state;
 use trials_cells::state::{Difference, Kind};
@@ -21,10 +22,10 @@ const CASES: u32 = 6000;
 // What a trial differed in.
 fn difference(expected: Reading, counted: Counted) -> Option<Difference> {
     let report = counted.report;
-    if report.refusal != expected.refusal_number() {
+    if report.refusal != placed_number(expected.refused) {
         return Some(Difference::Refusal);
     }
-    if report.line != expected.refused_line() {
+    if report.line as usize != expected.refused_line() {
         return Some(Difference::Place);
     }
     if report.account != expected.account {
@@ -45,7 +46,7 @@ fn trace_case(rt: &impl Print, cells: &mut Cells, case: u32) {
     let expected = reading::count(cells, wrong, n);
     let counted = entry::count(cells, wrong, n, case);
     let what = difference(expected, counted);
-    let number = expected.refusal_number();
+    let number = placed_number(expected.refused);
     state::record(rt, cells, Kind::Trace, case, number, what);
 }
 

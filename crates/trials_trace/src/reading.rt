@@ -5,7 +5,7 @@ use crate::tables::Cycles;
 use crate::text::{
     ADDRESSES, BLANK, CARRIAGE_RETURN, DIGIT_0, LOWER, NEWLINE, TAB, UPPER, VARIABLE_ADDRESSES,
 };
-use protocol_types::{Account, Refusal};
+use protocol_types::{Account, PlacedRefusal, Refusal};
 use trials_cells::cells::{Cells, get, less, sum};
 
 // The labels: 1 writes, the others below READS_AND_WRITES read, and one more clears.
@@ -22,34 +22,20 @@ const MOST_DIGITS: u32 = 8;
 // An account has no more requests.
 const MOST_REQUESTS: u32 = 1000000;
 
-// What a trace came to. `at` is where its next line starts; after a refusal no line is read.
+// What a trace came to. `at` is where its next line starts; after a refusal no line is read. A refusal's place is its line, or 0
+// where no line was read.
 #[derive(Clone, Copy)]
 pub struct Reading {
     pub at: u32,
     pub account: Account,
-    pub refused: Option<RefusedLine>,
-}
-
-// Why a trace was refused, and at which line; at 0 where no line was read.
-#[derive(Clone, Copy)]
-pub struct RefusedLine {
-    refusal: Refusal,
-    line: u32,
+    pub refused: Option<PlacedRefusal>,
 }
 
 impl Reading {
-    // The refusal number, or 0.
-    pub fn refusal_number(self) -> u32 {
-        match self.refused {
-            Some(refused) => refused.refusal.number(),
-            None => 0,
-        }
-    }
-
     // The line that was refused, or 0.
-    pub fn refused_line(self) -> u32 {
+    pub fn refused_line(self) -> usize {
         match self.refused {
-            Some(refused) => refused.line,
+            Some(refused) => refused.place,
             None => 0,
         }
     }
@@ -222,8 +208,9 @@ fn next_line(cells: &mut Cells, n: u32, so_far: Reading) -> Reading {
 }
 
 fn refused(so_far: Reading, refusal: Refusal, line: u32) -> Reading {
+    let place = line as usize;
     Reading {
-        refused: Some(RefusedLine { refusal, line }),
+        refused: Some(PlacedRefusal { refusal, place }),
         ..so_far
     }
 }
