@@ -110,8 +110,7 @@ fn print_all(rt: &impl Print, cells: &Cells) {
 }
 
 fn main(rt: HostRuntime) {
-    let mut cells = [0u32; trials_cells::cells::SIZE];
-    state::set_seed(&mut cells, FIRST_SEED);
+    let mut cells = state::seeded(FIRST_SEED);
     starts(&rt, &mut cells, STARTS);
     series(&rt, &mut cells, RUNS);
     prices(&rt, &mut cells, PRICES);

@@ -249,8 +249,7 @@ fn print_all(rt: &impl Print, cells: &Cells) {
 }
 
 fn main(rt: HostRuntime) {
-    let mut cells = [0u32; trials_cells::cells::SIZE];
-    state::set_seed(&mut cells, FIRST_SEED);
+    let mut cells = state::seeded(FIRST_SEED);
     cases(&rt, &mut cells, QUESTIONS);
     print_all(&rt, &cells);
 }

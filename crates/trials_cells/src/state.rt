@@ -1,9 +1,9 @@
 // The state of the trials, in the first 256 cells: the random generator, and the counts of what was seen.
-ghost use Rattle.std.specs.Prelude.{◌≡◌, ◌<◌, ◌+◌, ◌-◌, ◌*◌, ◌%◌};
-ghost use Rattle.trials_cells.specs.Cells.{summed, cell, with};
+ghost use Rattle.std.specs.Prelude.{◌≡◌, ◌<◌, ◌+◌, ◌-◌, ◌*◌, ◌%◌, replicate};
+ghost use Rattle.trials_cells.specs.Cells.{size, summed, cell, with};
 ghost use Rattle.trials_cells.specs.State.{following, drawn, roll, added, kind_number, count_place, judged, totalled};
 
-use crate::cells::{Cells, get, less, put, remainder, sum};
+use crate::cells::{Cells, SIZE, get, less, put, remainder, sum};
 
 pub const STATE: u32 = 0;
 
@@ -83,10 +83,13 @@ const MODULUS: u64 = 2147483647;
 
 const HALF_WORD: u32 = 65536;
 
-pub fn set_seed(cells: &mut Cells, seed: u32)
-    ensures { cells.new ≡ with cells.old 0 0 seed }
+// Cells of 0, but for the generator, which is the seed.
+pub fn seeded(seed: u32) -> Cells
+    ensures { result ≡ with (replicate size 0) 0 0 seed }
 {
-    put(cells, STATE, GENERATOR, seed);
+    let mut cells = [0; SIZE];
+    put(&mut cells, STATE, GENERATOR, seed);
+    cells
 }
 
 // The number after s.

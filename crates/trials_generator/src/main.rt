@@ -114,8 +114,7 @@ fn print_all(rt: &impl Print, cells: &Cells) {
 }
 
 fn main(rt: HostRuntime) {
-    let mut cells = [0u32; trials_cells::cells::SIZE];
-    state::set_seed(&mut cells, FIRST_SEED);
+    let mut cells = state::seeded(FIRST_SEED);
     layout::put_pattern(&mut cells);
     lists(&rt, &mut cells, LISTS);
     shown::print_requests(&rt, &mut cells);

@@ -56,8 +56,7 @@ fn print_all(rt: &impl Print, cells: &Cells) {
 }
 
 fn main(rt: HostRuntime) {
-    let mut cells = [0u32; trials_cells::cells::SIZE];
-    state::set_seed(&mut cells, FIRST_SEED);
+    let mut cells = state::seeded(FIRST_SEED);
     all_runs(&rt, &mut cells, RUNS);
     all_prices(&rt, &mut cells, PRICES);
     all_generated(&rt, &mut cells, GENERATED);

@@ -57,8 +57,7 @@ fn traces(rt: &impl Print, cells: &mut Cells, n: u32) {
 }
 
 fn main(rt: HostRuntime) {
-    let mut cells = [0u32; trials_cells::cells::SIZE];
-    state::set_seed(&mut cells, FIRST_SEED);
+    let mut cells = state::seeded(FIRST_SEED);
     traces(&rt, &mut cells, CASES);
     state::print_kind(&rt, &cells, Kind::Trace, b"trace");
     state::print_cell(&rt, &cells, b"differences ", state::DIFFERENCES);
