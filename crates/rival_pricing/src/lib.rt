@@ -14,7 +14,8 @@ use protocol_types::{Refusal, Setup};
 const PRICE_ENTRY_LIMIT: usize = 4000000;
 
 // Every table becomes 0.
-pub fn clear_all<'a>(setup: Setup, blocks: &'a mut [u32], held: &'a mut [u32], marks: &'a mut [u32])
+#[tactic(auto, unfolding(protocol::specs::Rival::no_copies))]
+pub fn clear_all(setup: Setup, blocks: &mut [u32], held: &mut [u32], marks: &mut [u32])
     requires { RivalSized setup (rival_lent blocks.old held.old marks.old) }
     ensures { rival_lent blocks.new held.new marks.new ≡ no_copies setup }
 {
@@ -24,6 +25,7 @@ pub fn clear_all<'a>(setup: Setup, blocks: &'a mut [u32], held: &'a mut [u32], m
 }
 
 // Whether condition 2 lets the tables through.
+#[tactic(auto, unfolding(protocol::specs::Rival::rival_sized))]
 fn is_sized(setup: Setup, blocks: &[u32], held: &[u32], marks: &[u32]) -> bool
     requires { Fits setup }
     ensures { result ≡ rival_sized setup (rival_lent blocks.now held.now marks.now) }
@@ -40,6 +42,7 @@ fn few_enough(entries: usize, requests: usize) -> bool
 }
 
 // Whether lists of these lengths are refused: 1, 10, 2, 5 in this order.
+#[tactic(auto, unfolding(protocol::specs::Pricer::price_refusal))]
 pub fn price_refusal(
     setup: Setup,
     blocks: &[u32],

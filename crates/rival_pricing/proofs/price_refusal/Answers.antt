@@ -1,6 +1,5 @@
 -- The first condition met gives the refusal: 1 or 10, then 2, then 5.
 use mathlib.Core.Path.{sym}
-use Rattle.std.proofs.Common.{rules}
 use Rattle.protocol_types.specs.Refusals.{no_refusal}
 use Rattle.protocol_types.proofs.Board.{setup-fits}
 use Rattle.protocol_types.proofs.Refusals.{refusal-at_exit, number-first}
@@ -16,15 +15,3 @@ returns-in_err-check c =
 
 pub is_sized-fit-requires : goal.is_sized-fit-requires
 is_sized-fit-requires c = setup-fits c.args.setup (sym (c.in_ok-check.ensures))
-
-pub returns-then-not-fit : goal.returns-then-not-fit
-unfolding price_refusal
-returns-then-not-fit c = rw (← c.in_ok-check.ensures) (search rules)
-
-pub returns-then-not-few : goal.returns-then-not-few
-unfolding price_refusal
-returns-then-not-few c = rw (← c.in_ok-check.ensures) (search rules)
-
-pub returns : goal.returns
-unfolding price_refusal
-returns c = rw (← c.in_ok-check.ensures) (search rules)
