@@ -54,14 +54,6 @@ impl Answer {
     }
 }
 
-// The refusal number, or 0.
-pub(crate) fn refusal_number(refused: Option<PlacedRefusal>) -> u32 {
-    match refused {
-        Some(refused) => refused.refusal.number(),
-        None => 0,
-    }
-}
-
 // An element of a lent table: a number, or the byte of a mask.
 trait Element: Copy {
     fn from_cell(x: u32) -> Self;

@@ -6,7 +6,7 @@ use crate::rival::{EntryKind, Move, Play};
 use crate::run_trials::{Judged, Plan};
 use crate::served::check_named;
 use crate::{asked, lent, lists, rival, run_trials, setups};
-use protocol_types::{Account, Setup};
+use protocol_types::{Account, Setup, placed_number};
 use trials_cells::cells::{Cells, product, quotient, remainder, sum};
 use trials_cells::state;
 use trials_cells::state::{Difference, Kind, draw, word};
@@ -372,7 +372,7 @@ fn judge_schedule(rt: &impl Print, cells: &mut Cells, question: Question, m: u32
     let right = question.right;
     let priced = price_both(cells, question, m);
     let play = priced.play;
-    let number = asked::refusal_number(play.refused);
+    let number = placed_number(play.refused);
     state::record(rt, cells, Kind::Price, case, number, priced.what);
     if play.refused.is_none() {
         let judged = run_fresh(cells, right, question.n);

@@ -3,7 +3,7 @@ use crate::asked::{Answer, Shown};
 use crate::layout::{REAL, WANTED};
 use crate::served::Outcome;
 use crate::{asked, damage, lent, lists, served, setups};
-use protocol_types::{Account, PlacedRefusal, Refusal, Setup};
+use protocol_types::{Account, PlacedRefusal, Refusal, Setup, placed_number};
 use trials_cells::cells::{Cells, copy, differences, less, put, quotient, remainder, sum};
 use trials_cells::state;
 use trials_cells::state::{Difference, Kind, draw, word};
@@ -39,7 +39,7 @@ fn with_tables(cells: &Cells, what: Option<Difference>) -> Option<Difference> {
 
 // What an answer differs in from the model's.
 fn answers_differ(expected: Answer, answer: Answer) -> Option<Difference> {
-    if asked::refusal_number(answer.refused) != asked::refusal_number(expected.refused) {
+    if placed_number(answer.refused) != placed_number(expected.refused) {
         return Some(Difference::Refusal);
     }
     if answer.refused != expected.refused {
@@ -77,7 +77,7 @@ fn start_both(rt: &impl Print, cells: &mut Cells, setup: Setup, case: u32) {
     copy_tables(cells);
     let expected = Answer::started(lent::start(cells, setup), fresh);
     let what = compare(cells, Kind::Start, setup, fresh, 0, 0, expected);
-    let number = asked::refusal_number(expected.refused);
+    let number = placed_number(expected.refused);
     state::record(rt, cells, Kind::Start, case, number, what);
 }
 
@@ -304,7 +304,7 @@ pub(crate) fn note_run(
     case: u32,
 ) {
     let after = judged.account;
-    let number = asked::refusal_number(judged.refused);
+    let number = placed_number(judged.refused);
     state::record(rt, cells, Kind::Run, case, number, judged.what);
     state::add(
         cells,
