@@ -81,7 +81,7 @@ def flag_types():
 
 def sentinels():
     for path, text in sources():
-        for m in re.finditer(r"^//.*(none is|where there is none|if there is none|if none|where none|is none|of any other byte|so far none|if it is not above).*\n", text, re.M):
+        for m in re.finditer(r"^ *//.*(none is|where there is none|if there is none|if none|where none|is none|of any other byte|so far none|if it is not above|while none|once the search is over).*\n", text, re.M):
             yield path, line_of(text, m.start()), m.group(0).strip()
 
 
@@ -91,6 +91,22 @@ def loops():
 
 def counted_loops():
     return grep(r"^\s*('\w+: )?while .*(<|>|!=) ")
+
+
+def one_name():
+    """Functions that have their name from another crate too, methods and the programs' main aside."""
+    places = {}
+    for path, n, name, head, body in functions():
+        if name != "main" and "self" not in head.split(")")[0]:
+            places.setdefault(name, []).append((path, n, name))
+    for name, found in sorted(places.items()):
+        if len({path.split("/")[1] for path, _, _ in found}) > 1:
+            yield from found
+
+
+def proof_files():
+    for path in sorted(glob.glob("crates/*/proofs/*/**/*.antt", recursive=True)):
+        yield path, 1, ""
 
 
 def by_hand():
@@ -130,6 +146,7 @@ POINTS = {
     "1 fields that hold one": number_fields,
     "1 structs with a flag beside other fields": flag_types,
     "1 functions and fields with a value that stands for none, by their comments": sentinels,
+    "2 functions of one name in two crates": one_name,
     "3 loops that are no for": loops,
     "3 of them with a comparison": counted_loops,
     "4 functions that compare, copy or convert, by their names": by_hand,
@@ -139,6 +156,7 @@ POINTS = {
     "5 functions with three or more of the search's tables": lambda: together(SEARCH, 3),
     "6 functions with a slice and a place or a length beside it": places,
     "7 loops by a flag, and switches on the next step": drivers,
+    "8 proof files of functions": proof_files,
 }
 
 if __name__ == "__main__":
