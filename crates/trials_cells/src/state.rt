@@ -83,12 +83,19 @@ const MODULUS: u64 = 2147483647;
 
 const HALF_WORD: u32 = 65536;
 
+// The generator begins with a seed.
+pub fn set_seed(cells: &mut Cells, seed: u32)
+    ensures { cells.new ≡ with cells.old 0 0 seed }
+{
+    put(cells, STATE, GENERATOR, seed);
+}
+
 // Cells of 0, but for the generator, which is the seed.
 pub fn seeded(seed: u32) -> Cells
     ensures { result ≡ with (replicate size 0) 0 0 seed }
 {
     let mut cells = [0; SIZE];
-    put(&mut cells, STATE, GENERATOR, seed);
+    set_seed(&mut cells, seed);
     cells
 }
 
