@@ -11,4 +11,3 @@ trace-passes = refl
 
 pub trace-fits : Fits trace_setup
 trace-fits = setup-fits trace_setup trace-passes
-
