@@ -1,4 +1,4 @@
--- What reads of standard input come to. No contract says what a read answers or which bytes it brings; all that follows from these is defined here.
+-- What reads of standard input come to. No contract says what a read answers, but that it is no more bytes than the buffer holds, or which bytes it brings; all that follows from these is defined here.
 use Rattle.std.specs.Prelude.{ℕ, ◌-◌, ◌^◌, ◌≡◌, Bool, true, false, cond, Option, unwrap_or, is_none, Result, Ok, Err, is_err, List, [], ◌∷◌, ◌++◌, eqb, length, take}
 use Rattle.protocol_types.specs.Refusals.{no_refusal}
 use Rattle.protocol.specs.Tables.{fresh}

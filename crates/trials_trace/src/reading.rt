@@ -33,7 +33,7 @@ pub struct Reading {
 
 impl Reading {
     // The line that was refused, or 0.
-    pub fn refused_line(self) -> usize {
+    pub(crate) fn refused_line(self) -> usize {
         match self.refused {
             Some(refused) => refused.place,
             None => 0,
