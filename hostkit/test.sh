@@ -8,13 +8,13 @@ archive="$CUZKELOR_LIB/libhost.a"
 out="$CARGO_TARGET_DIR"
 mkdir -p "$out"
 
-# What the header says of the archive: it needs no functions but those that compilers presuppose, and has no state.
-if nm --undefined-only "$archive" | grep ' U ' | grep -vE ' U (memset|memcpy|memmove|memcmp)$'; then
+# What the header says of the archive: it needs memset alone, and has no state.
+if nm --undefined-only "$archive" | grep ' U ' | grep -vE ' U memset$'; then
     echo 'the archive needs more than the header says'
     exit 1
 fi
 size "$archive" | awk 'NR > 1 && $2 + $3 > 0 { print "the archive has state"; exit 1 }'
-echo 'archive: no other functions needed, no state'
+echo 'archive: memset alone needed, no state'
 
 strict=(-O2 -Wall -Wextra -pedantic -Wconversion -Werror)
 for compiler in 'gcc -std=c99' 'gcc -std=c11' 'g++ -std=c++11 -x c++'; do

@@ -8,6 +8,7 @@ ghost use Rattle.protocol.specs.Lent.{lent_masked};
 ghost use Rattle.protocol.specs.Runs.{start_refusal, started, looked};
 ghost use Rattle.engine_tables.specs.Entries.{lengths_fit, seen};
 
+use parts::set_all;
 use protocol_types::{Block, Refusal, Setup};
 
 // Whether tables and masks of these lengths are let through by condition 2.
@@ -59,12 +60,12 @@ pub fn start(
     ) {
         return Err(Refusal::WrongLength);
     }
-    blocks.fill(0);
-    counters.fill(0);
-    marks.fill(0);
-    words.fill(0);
-    memory.fill(0);
-    masks.fill(0);
+    set_all(blocks, 0);
+    set_all(counters, 0);
+    set_all(marks, 0);
+    set_all(words, 0);
+    set_all(memory, 0);
+    set_all(masks, 0);
     Ok(())
 }
 
@@ -105,7 +106,7 @@ pub fn look<'a>(
     ensures { result.now ≡ looked setup blocks.now counters.now words.now processor block }
 {
     if !sees(setup, processor, block, blocks, counters, words.len()) {
-        return &[];
+        return &words[..0];
     }
     let n = setup.words as usize;
     let start = setup.slot(processor, block) * n;

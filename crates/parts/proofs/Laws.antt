@@ -1,19 +1,50 @@
--- Laws of lists for what a part of the words leaves in the whole, and of the tests of a part.
+-- Laws of lists for a loop that overwrites the words from the front, for what a part of the words leaves in the whole, and of the tests of a part.
 -- Assumes nothing.
 use mathlib.Core.Path.{◌≡◌, refl, sym, ap, subst, ◌∙◌}
 use mathlib.Core.Bool.{Bool, true, false, ◌&&◌}
-use mathlib.Core.List.{List, [], ◌∷◌, ◌++◌, append_assoc}
+use mathlib.Core.List.{List, [], ◌∷◌, ◌++◌, append_assoc, append-nil}
 use Prim.Native.Nat.{ℕ, zero, suc, ◌+◌, ◌-◌, ◌≤◌, ◌<◌}
-use native.Mathlib.Nat.{add-sub_cancel_left}
+use native.Mathlib.Nat.{add-sub_cancel_left, not-suc-le-zero, le_of_suc-le-suc}
 use native.Mathlib.Decide.{dec_lt}
 use native.Mathlib.Numerals.{add-one}
 use native.Mathlib.Omega.{arith}
-use lib.ListN.{length, take, drop, length-drop, length-replicate}
-use lib.Seq.{sets, sets-eq, drop-drop, length-take-le}
+use lib.ListN.{length, take, drop, set, get_or, replicate, length-drop, length-replicate}
+use lib.Seq.{sets, sets-eq, take-length, drop-length, drop-drop, length-take-le}
 use lib.Pointwise.{pointwise}
 use Rattle.std.specs.List.{list_all}
 use Rattle.std.proofs.lemmas.List.{get_or-take, get_or-drop}
 use Rattle.protocol_types.specs.Lists.{at, part, zeros, all}
+
+-- ---- a loop that overwrites xs by ys from the front
+
+front-suc : (ys xs : List ℕ) (i : ℕ) → i < length ys → i < length xs → set (take i ys ++ drop i xs) i (get_or ys i 0) ≡ take (suc i) ys ++ drop (suc i) xs
+front-suc [] xs i h k = absurd (not-suc-le-zero h)
+front-suc (y ∷ ys) [] i h k = absurd (not-suc-le-zero k)
+front-suc (y ∷ ys) (x ∷ xs) zero h k = refl
+front-suc (y ∷ ys) (x ∷ xs) (suc i) h k = ap (λ (r : List ℕ). y ∷ r) (front-suc ys xs i (le_of_suc-le-suc h) (le_of_suc-le-suc k))
+
+-- a turn of the loop
+pub front-more : (ys xs : List ℕ) (i : ℕ) → i < length ys → i < length xs → set (take i ys ++ drop i xs) i (get_or ys i 0) ≡ take (i + 1) ys ++ drop (i + 1) xs
+front-more ys xs i h k = rw add-one (front-suc ys xs i h k)
+
+-- its end
+pub front-all : (ys xs : List ℕ) (i : ℕ) → length ys ≡ i → length xs ≡ i → take i ys ++ drop i xs ≡ ys
+front-all ys xs i h k =
+    subst (λ (n : ℕ). take n ys ++ drop i xs ≡ ys) h
+    (subst (λ (n : ℕ). take (length ys) ys ++ drop n xs ≡ ys) k (rw (take-length, drop-length) (append-nil ys)))
+
+-- a turn of a loop that sets every element to v
+set-suc : {X : Type 0} (v : X) (xs : List X) (i : ℕ) → i < length xs → set (replicate i v ++ drop i xs) i v ≡ replicate (suc i) v ++ drop (suc i) xs
+set-suc v [] i h = absurd (not-suc-le-zero h)
+set-suc v (x ∷ xs) zero h = refl
+set-suc {X} v (x ∷ xs) (suc i) h = ap (λ (r : List X). v ∷ r) (set-suc v xs i (le_of_suc-le-suc h))
+
+pub set-more : {X : Type 0} (v : X) (xs : List X) (i : ℕ) → i < length xs → set (replicate i v ++ drop i xs) i v ≡ replicate (i + 1) v ++ drop (i + 1) xs
+set-more v xs i h = rw add-one (set-suc v xs i h)
+
+-- its end
+pub set-every : {X : Type 0} (v : X) (xs : List X) (i : ℕ) → length xs ≡ i → replicate i v ++ drop i xs ≡ replicate (length xs) v
+set-every v xs i h = rw (← h, drop-length) (append-nil (replicate (length xs) v))
 
 -- ---- a part that was lent as `&mut xs[a..a + n]`
 

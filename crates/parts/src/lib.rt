@@ -1,7 +1,7 @@
 // Rows of lent words, cleared, copied and compared: a slot's words, and a block's words in main memory.
 #![tactic(auto, unfolding(protocol_types::specs::Board::word_index))]
 
-ghost use Rattle.std.specs.Prelude.{◌≡◌, ◌+◌, ◌≤◌, ◌<◌, length, set, eqb};
+ghost use Rattle.std.specs.Prelude.{◌≡◌, ◌+◌, ◌≤◌, ◌<◌, length, replicate, set, eqb};
 ghost use Rattle.std.specs.List.{list_all};
 ghost use Rattle.std.proofs.lemmas.List.Edits.{sets};
 ghost use Rattle.protocol_types.specs.Lists.{at, part, zeros, all};
@@ -37,6 +37,15 @@ pub fn set_word(setup: Setup, row: usize, offset: u32, value: u32, words: &mut [
     words[k] = value;
 }
 
+// Every element becomes this one. A loop, since the library's `fill` costs more where there are few.
+pub fn set_all<T: Copy>(part: &mut [T], value: T)
+    ensures { part.new ≡ replicate (length part.old) value }
+{
+    for k in 0..part.len() {
+        part[k] = value;
+    }
+}
+
 // The words of a row become 0.
 #[tactic(auto, using(crate::proofs::Laws::part_cleared), unfolding(protocol_types::specs::Board::word_index))]
 pub fn clear_row(setup: Setup, row: usize, words: &mut [u32])
@@ -45,7 +54,17 @@ pub fn clear_row(setup: Setup, row: usize, words: &mut [u32])
 {
     let n = setup.words as usize;
     let start = row * n;
-    words[start..start + n].fill(0);
+    set_all(&mut words[start..start + n], 0);
+}
+
+// The words of `to` become those of `from`, which has as many. A loop, since the archive for hosts needs no memmove.
+fn copy(from: &[u32], to: &mut [u32])
+    requires { length from.now ≡ length to.old }
+    ensures { to.new ≡ from.now }
+{
+    for k in 0..from.len() {
+        to[k] = from[k];
+    }
 }
 
 // The words of row `into` of `to` become those of row `row` of `from`.
@@ -55,7 +74,7 @@ pub fn copy_row(setup: Setup, from: &[u32], row: usize, to: &mut [u32], into: us
 {
     let n = setup.words as usize;
     let start = into * n;
-    to[start..start + n].copy_from_slice(row_of(setup, row, from));
+    copy(row_of(setup, row, from), &mut to[start..start + n]);
 }
 
 // Whether each word is 0.

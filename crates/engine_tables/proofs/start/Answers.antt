@@ -40,12 +40,12 @@ returns c =
     let r = start-filled a.setup x (sym c.in_ok-check.ensures) l in record {
       value = r.0;
       masks_value = rw (
-        c.fill.ensures.after (λ y e. e),
-        c.fill-2.ensures.after (λ y e. e),
-        c.fill-3.ensures.after (λ y e. e),
-        c.fill-4.ensures.after (λ y e. e),
-        c.fill-5.ensures.after (λ y e. e),
-        c.fill-6.ensures.after (λ y e. e),
+        c.set_all.ensures,
+        c.set_all-2.ensures,
+        c.set_all-3.ensures,
+        c.set_all-4.ensures,
+        c.set_all-5.ensures,
+        c.set_all-6.ensures,
         z.blocks,
         z.counters,
         z.marks,
