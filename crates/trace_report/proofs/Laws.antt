@@ -8,7 +8,7 @@ use native.Mathlib.Omega.{arith}
 use lib.Dec.{eqb}
 use lib.ListN.{length, take}
 use borrow.Author.Tests.{eq-eqb, ne_eqb, eqb-true}
-use Rattle.std.specs.Prelude.{Option, unwrap_or, is_none, Result, is_err}
+use Rattle.std.specs.Prelude.{Option, Some, unwrap_or, is_none, Result, is_err}
 use Rattle.protocol_types.specs.Refusals.{no_refusal}
 use Rattle.protocol.specs.Tables.{Tables, fresh}
 use Rattle.trace_lines.specs.Trace.{trace_setup, Ended, report_numbers, report}
@@ -19,7 +19,24 @@ use Rattle.trace.proofs.Laws.{first-stage, countable-first}
 use Rattle.trace.proofs.Feeding.{fed-append, countable-fed}
 use Rattle.trace.proofs.Whole.{fed-ended}
 use Rattle.trace_report.specs.declared.ReadFailed.{ReadFailed}
-use Rattle.trace_report.specs.Reading.{Read, read_of, is_last, brought, Reading, counted, after_read, after_reads, all_brought, InTurn, Reached, so_far, Reported}
+use Rattle.trace_report.specs.Reading.{Read, read_of, is_last, brought, Reading, counted, after_read, Took, after_reads, all_brought, InTurn, Reached, so_far, Reported}
+
+-- ---- one read
+
+-- it answered got, which is o
+module _ (x : CountStage) (buffer : List ℕ) (got o : Option ℕ) (h : got ≡ o) where
+  -- it brought no byte
+  pub read-none : unwrap_or o 0 ≡ 0 → record { going = false; failed = is_none o; stage = x } ≡ after_read x (read_of got buffer)
+  unfolding after_read
+  read-none e = subst (λ (k : Option ℕ). record { going = false; failed = is_none o; stage = x } ≡ after_read x (read_of k buffer)) (sym h) (simp (eq-eqb (unwrap_or o 0) 0 e))
+
+  -- it brought bytes, which led to y
+  pub read-bytes : (y : CountStage) (b : Bool) → (unwrap_or o 0 ≡ 0 → ⊥) → y ≡ fed x (take (unwrap_or o 0) buffer) → eqb y.count.refusal no_refusal ≡ b
+      → record { going = b; failed = false; stage = y } ≡ after_read x (read_of got buffer)
+  unfolding after_read
+  read-bytes y b some e f =
+      ap (λ (c : Bool). record { going = c; failed = false; stage = y }) (sym f)
+      ∙ subst (λ (k : Option ℕ). counted y ≡ after_read x (read_of k buffer)) (sym h) (simp (ne_eqb (unwrap_or o 0) 0 some, e))
 
 -- ---- the count after reads is that of their bytes
 
@@ -58,67 +75,43 @@ countable-reads x ds e = subst Countable (sym (e ∙ after-reads ds)) (countable
 pub countable-going : (x : CountStage) (n : ℕ) → Going x n → Countable x
 countable-going x n g = countable-reads x g.reads (sym (ap (λ (z : Reading). z.stage) g.is))
 
-pub countable-reached : (f : Bool) (x : CountStage) → Reached f x → Countable x
-countable-reached f x r = countable-reads x r.reads r.is
+pub countable-reached : (x : Reading) → Reached x → Countable x.stage
+countable-reached x r = countable-reads x.stage r.reads (ap (λ (z : Reading). z.stage) r.is)
 
 -- ---- one read more
 
-module _ (x : CountStage) (n : ℕ) (g : Going x n) (got : Option ℕ) (buffer : List ℕ) where
+module _ (x : CountStage) (n : ℕ) (g : Going x n) (buffer : List ℕ) (y : Reading) (t : Took x buffer y) where
   abbrev ds : List Read
-  ds = read_of got buffer ∷ g.reads
+  ds = read_of t.got buffer ∷ g.reads
 
-  one_more : after_reads ds ≡ after_read x (read_of got buffer)
-  one_more = ap (λ (z : Reading). after_read z.stage (read_of got buffer)) g.is
+  one_more : y ≡ after_reads ds
+  one_more = t.is ∙ sym (ap (λ (z : Reading). after_read z.stage (read_of t.got buffer)) g.is)
 
   turned : InTurn ds
   turned = (ap (λ (z : Reading). z.going) g.is, g.in-turn)
 
-  stopped : (f : Bool) (y : CountStage) → after_reads ds ≡ record { going = false; failed = f; stage = y } → Reached f y
-  stopped f y e = record {
+  pub going_more : (z : CountStage) → y ≡ record { going = true; failed = false; stage = z } → Going z (n + 1)
+  going_more z e = record { reads = ds; in-turn = turned; is = sym one_more ∙ e; turns = omega (arith, g.turns) }
+
+  pub reached-end : y.going ≡ false → Reached y
+  reached-end stop = record {
     reads = ds;
-    all_read = record { in-turn = turned; ended = λ go. absurd (true≢false (sym go ∙ ap (λ (z : Reading). z.going) e)) };
-    failure = sym (ap (λ (z : Reading). z.failed) e);
-    is = sym (ap (λ (z : Reading). z.stage) e);
+    all_read = record { in-turn = turned; ended = λ go. absurd (true≢false (sym (ap (λ (z : Reading). z.going) one_more ∙ go) ∙ stop)) };
+    is = one_more;
   }
 
-  -- it brought no byte
-  pub reached-none : unwrap_or got 0 ≡ 0 → Reached (is_none got) x
-  unfolding after_read
-  reached-none e = stopped (is_none got) x (one_more ∙ simp (eq-eqb (unwrap_or got 0) 0 e))
-
-  -- it brought bytes, which led to y
-  module _ (some : unwrap_or got 0 ≡ 0 → ⊥) (y : CountStage) (e : y ≡ fed x (take (unwrap_or got 0) buffer)) where
-    led : after_reads ds ≡ counted y
-    unfolding after_read
-    led = one_more ∙ simp (ne_eqb (unwrap_or got 0) 0 some, e)
-
-    pub reached-refused : (y.count.refusal ≡ no_refusal → ⊥) → Reached false y
-    reached-refused d = stopped false y (led ∙ ap (λ (b : Bool). record { going = b; failed = false; stage = y }) (ne_eqb _ _ d))
-
-    pub going_more : y.count.refusal ≡ no_refusal → Going y (n + 1)
-    going_more d = record {
-      reads = ds;
-      in-turn = turned;
-      is = led ∙ ap (λ (b : Bool). record { going = b; failed = false; stage = y }) (eq-eqb _ _ d);
-      turns = omega (arith, g.turns);
-    }
-
 -- all turns are made
-pub reached-last : (x : CountStage) (n : ℕ) → Going x n → n ≡ 2 ^ 64 - 1 → Reached false x
-reached-last x n g e = record {
-  reads = g.reads;
-  all_read = record { in-turn = g.in-turn; ended = λ _. g.turns ∙ e };
-  failure = sym (ap (λ (z : Reading). z.failed) g.is);
-  is = sym (ap (λ (z : Reading). z.stage) g.is);
-}
+pub reached-last : (x : CountStage) (n : ℕ) → Going x n → n ≡ 2 ^ 64 - 1 → Reached (record { going = true; failed = false; stage = x })
+reached-last x n g e = record { reads = g.reads; all_read = record { in-turn = g.in-turn; ended = λ _. g.turns ∙ e }; is = sym g.is }
 
 -- ---- the report
 
-pub reached-reported : (x : CountStage) (t : Tables) (a : Result Report (ReadFailed Report)) → Reached (is_err a) x → reporting (report_numbers (so_far a)) t ≡ finished x → Reported a
+pub reached-reported : (x : Reading) (y : CountStage) (t : Tables) (a : Result Report (ReadFailed Report)) → Reached x
+    → is_err a ≡ x.failed → y ≡ x.stage → reporting (report_numbers (so_far a)) t ≡ finished y → Reported a
 unfolding report
-reached-reported x t a r p = record {
+reached-reported x y t a r f e p = record {
   reads = r.reads;
   all_read = r.all_read;
-  failure = r.failure;
-  is = ap (λ (z : Ended). z.report) (p ∙ ap finished r.is ∙ ap finished (after-reads r.reads) ∙ fed-ended (all_brought r.reads));
+  failure = f ∙ ap (λ (z : Reading). z.failed) r.is;
+  is = ap (λ (z : Ended). z.report) (p ∙ ap finished (e ∙ ap (λ (z : Reading). z.stage) r.is ∙ after-reads r.reads) ∙ fed-ended (all_brought r.reads));
 }

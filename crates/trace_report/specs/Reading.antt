@@ -1,10 +1,13 @@
 -- What reads of standard input come to. No contract says what a read answers, but that it is no more bytes than the buffer holds, or which bytes it brings; all that follows from these is defined here.
 use Rattle.std.specs.Prelude.{ℕ, ◌-◌, ◌^◌, ◌≡◌, Bool, true, false, cond, Option, unwrap_or, is_none, Result, Ok, Err, is_err, List, [], ◌∷◌, ◌++◌, eqb, length, take}
 use Rattle.protocol_types.specs.Refusals.{no_refusal}
-use Rattle.protocol.specs.Tables.{fresh}
+use Rattle.protocol.specs.Tables.{Tables, fresh}
 use Rattle.trace_lines.specs.Trace.{trace_setup, report_numbers, report}
 use Rattle.trace_lines.specs.declared.Report.{Report}
-use Rattle.trace_count.specs.Counting.{CountStage, stage, fresh_count}
+use Rattle.std.specs.declared.ops.ControlFlow.{ControlFlow}
+use Rattle.std.specs.declared.ops.ControlFlow.TheVariants.{Continue, Break}
+use Rattle.trace_count.specs.declared.Count.{Count}
+use Rattle.trace_count.specs.Counting.{CountStage, count_stage, stage, fresh_count}
 use Rattle.trace.specs.Feeding.{fed}
 use Rattle.trace_report.specs.declared.ReadFailed.{ReadFailed}
 use Rattle.trace_report.specs.declared.Delivery.{Delivery}
@@ -35,6 +38,16 @@ pub record Reading : Type 0 where
   pub failed : Bool
   pub stage : CountStage
 
+-- what was read, in all or before a read failed
+abbrev pub so_far : {A : Type 0} → Result A (ReadFailed A) → A
+so_far (Ok x) = x
+so_far (Err e) = e.before
+
+-- the same of what a read led to
+abbrev pub reading : ControlFlow (Result Count (ReadFailed Count)) Count → Tables → Reading
+reading (Continue c) t = record { going = true; failed = false; stage = count_stage c t }
+reading (Break r) t = record { going = false; failed = is_err r; stage = count_stage (so_far r) t }
+
 -- reading goes on until a line is refused
 abbrev pub counted : CountStage → Reading
 counted x = record { going = eqb x.count.refusal no_refusal; failed = false; stage = x }
@@ -42,6 +55,11 @@ counted x = record { going = eqb x.count.refusal no_refusal; failed = false; sta
 -- it stops where a read brings no byte, and has failed if the read has
 unfoldable pub after_read : CountStage → Read → Reading
 after_read x d = cond (is_last d) (record { going = false; failed = is_none d.got; stage = x }) (counted (fed x (brought d)))
+
+-- one read, whatever it answered, led from x to y and left this buffer
+pub record Took (x : CountStage) (buffer : List ℕ) (y : Reading) : Type 0 where
+  pub got : Option ℕ
+  pub is : y ≡ after_read x (read_of got buffer)
 
 -- ---- all reads, the last one first
 
@@ -63,17 +81,11 @@ pub record AllRead (ds : List Read) : Type 0 where
   pub in-turn : InTurn ds
   pub ended : (after_reads ds).going ≡ true → length ds ≡ 2 ^ 64 - 1
 
--- a count after such reads, and whether the last one failed
-pub record Reached (failed : Bool) (x : CountStage) : Type 0 where
+-- a count after such reads
+pub record Reached (x : Reading) : Type 0 where
   pub reads : List Read
   pub all_read : AllRead reads
-  pub failure : failed ≡ (after_reads reads).failed
-  pub is : x ≡ (after_reads reads).stage
-
--- what was read, in all or before a read failed
-abbrev pub so_far : {A : Type 0} → Result A (ReadFailed A) → A
-so_far (Ok x) = x
-so_far (Err e) = e.before
+  pub is : x ≡ after_reads reads
 
 -- the report of all the bytes of such reads, and whether the last one failed
 pub record Reported (a : Result Report (ReadFailed Report)) : Type 0 where

@@ -1,15 +1,18 @@
 // Reads a din trace on standard input and prints what it came to.
 #![tactic(auto)]
 
-ghost use Rattle.std.specs.Prelude.{◌≡◌, is_err};
-ghost use Rattle.protocol.specs.Tables.{fresh};
+ghost use Rattle.std.specs.Prelude.{◌≡◌, ◌≤◌, ◌*◌, length, is_err, IfOk};
+ghost use Rattle.std.specs.Result.{result_ok};
+ghost use Rattle.protocol.specs.Tables.{Tables, fresh};
 ghost use Rattle.protocol.specs.Lent.{lent, TrueMasks};
 ghost use Rattle.protocol.specs.Masks.{masks_of};
 ghost use Rattle.trace_lines.specs.Trace.{trace_setup};
-ghost use Rattle.trace_count.specs.Counting.{count_stage};
-ghost use Rattle.trace_report.specs.Reading.{so_far, Reached, Reported, Withheld, Delivered};
+ghost use Rattle.trace_count.specs.Counting.{count_stage, Countable};
+ghost use Rattle.trace_report.specs.Reading.{read_of, reading, after_read, Took, so_far, Reached, Reported, Withheld, Delivered};
 
+use std::io;
 use std::io::Read;
+use std::ops::ControlFlow;
 use trace::BLOCKS;
 use trace_count::Count;
 use trace_lines::Report;
@@ -30,7 +33,76 @@ pub struct ReadFailed<T> {
     pub before: T,
 }
 
-// Reads to the end of the trace, or up to a refusal or a failed read. The range is there so that the loop ends.
+// What a read led to: a count after which more is to be read, or how the reading ended.
+type Turn = ControlFlow<Result<Count, ReadFailed<Count>>, Count>;
+
+// Counts what a read brought, by its answer. Reading stops at the end of the input, at an error and after a refusal.
+fn count_read(
+    answer: io::Result<usize>,
+    count: Count,
+    buffer: &[u8],
+    blocks: &mut [u32],
+    counters: &mut [u32],
+    marks: &mut [u32],
+    words: &mut [u32],
+    memory: &mut [u32],
+    masks: &mut [u8],
+) -> Turn
+    requires within { IfOk answer (λ n. n ≤ length buffer.now) }
+    requires countable { Countable (count_stage count (lent blocks.old counters.old marks.old words.old memory.old)) }
+    requires true_masks { TrueMasks trace_setup (lent blocks.old counters.old marks.old words.old memory.old) masks.old }
+    ensures memory_value { reading result (lent blocks.new counters.new marks.new words.new memory.new)
+        ≡ after_read (count_stage count (lent blocks.old counters.old marks.old words.old memory.old)) (read_of (result_ok answer) buffer.now) }
+    ensures masks_after { masks.new ≡ masks_of trace_setup (lent blocks.new counters.new marks.new words.new memory.new) }
+{
+    let Ok(n) = answer else {
+        return ControlFlow::Break(Err(ReadFailed { before: count }));
+    };
+    if n == 0 {
+        return ControlFlow::Break(Ok(count));
+    }
+    let next = trace::feed(
+        count,
+        &buffer[..n],
+        blocks,
+        counters,
+        marks,
+        words,
+        memory,
+        masks,
+    );
+    let refused = next.refusal.is_some();
+    if refused {
+        return ControlFlow::Break(Ok(next));
+    }
+    ControlFlow::Continue(next)
+}
+
+// Reads once, and counts what came.
+fn read_some<R: Read>(
+    input: &mut R,
+    count: Count,
+    buffer: &mut [u8],
+    blocks: &mut [u32],
+    counters: &mut [u32],
+    marks: &mut [u32],
+    words: &mut [u32],
+    memory: &mut [u32],
+    masks: &mut [u8],
+) -> Turn
+    requires countable { Countable (count_stage count (lent blocks.old counters.old marks.old words.old memory.old)) }
+    requires true_masks { TrueMasks trace_setup (lent blocks.old counters.old marks.old words.old memory.old) masks.old }
+    ensures took { Took (count_stage count (lent blocks.old counters.old marks.old words.old memory.old)) buffer.new
+        (reading result (lent blocks.new counters.new marks.new words.new memory.new)) }
+    ensures masks_after { masks.new ≡ masks_of trace_setup (lent blocks.new counters.new marks.new words.new memory.new) }
+{
+    let answer = input.read(buffer);
+    count_read(
+        answer, count, &*buffer, blocks, counters, marks, words, memory, masks,
+    )
+}
+
+// Reads to the end of the trace, or up to a refusal or a failed read; more is to be read only where all turns of the range, which is there so that the loop ends, were made.
 fn read_all<R: Read>(
     input: &mut R,
     buffer: &mut [u8],
@@ -40,37 +112,32 @@ fn read_all<R: Read>(
     words: &mut [u32],
     memory: &mut [u32],
     masks: &mut [u8],
-) -> Result<Count, ReadFailed<Count>>
+) -> Turn
     requires memory_value { lent blocks.old counters.old marks.old words.old memory.old ≡ fresh trace_setup }
     requires true_masks { TrueMasks trace_setup (lent blocks.old counters.old marks.old words.old memory.old) masks.old }
-    ensures reached { Reached (is_err result) (count_stage (so_far result) (lent blocks.new counters.new marks.new words.new memory.new)) }
+    ensures reached { Reached (reading result (lent blocks.new counters.new marks.new words.new memory.new)) }
     ensures masks_after { masks.new ≡ masks_of trace_setup (lent blocks.new counters.new marks.new words.new memory.new) }
 {
     let mut count = Count::new();
     for _turn in 0..u64::MAX {
-        let Ok(n) = input.read(buffer) else {
-            return Err(ReadFailed { before: count });
-        };
-        if n == 0 {
-            return Ok(count);
+        match read_some(
+            input, count, buffer, blocks, counters, marks, words, memory, masks,
+        ) {
+            ControlFlow::Continue(more) => count = more,
+            ControlFlow::Break(end) => return ControlFlow::Break(end),
         }
-        let next = trace::feed(
-            count,
-            &buffer[..n],
-            blocks,
-            counters,
-            marks,
-            words,
-            memory,
-            masks,
-        );
-        let refused = next.refusal.is_some();
-        if refused {
-            return Ok(next);
-        }
-        count = next;
     }
-    Ok(count)
+    ControlFlow::Continue(count)
+}
+
+// How the reading ended, which it has too where all turns were made.
+fn end_of(turn: Turn) -> Result<Count, ReadFailed<Count>>
+    ensures { (t : Tables) → (is_err result ≡ (reading turn t).failed) × (count_stage (so_far result) t ≡ (reading turn t).stage) }
+{
+    match turn {
+        ControlFlow::Continue(count) => Ok(count),
+        ControlFlow::Break(end) => end,
+    }
 }
 
 // The report of the trace on the input, or of what was read of it.
@@ -88,7 +155,7 @@ fn read_report<R: Read>(
     ensures { Reported result }
 {
     let mut buffer = [0u8; BUFFER];
-    match read_all(
+    let last = read_all(
         input,
         &mut buffer,
         blocks,
@@ -97,7 +164,8 @@ fn read_report<R: Read>(
         words,
         memory,
         masks,
-    ) {
+    );
+    match end_of(last) {
         Ok(count) => Ok(trace::finish(count, blocks, counters, marks, words, memory, masks)),
         Err(failed) => Err(ReadFailed {
             before: trace::finish(failed.before, blocks, counters, marks, words, memory, masks),
