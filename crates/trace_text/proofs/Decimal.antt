@@ -11,7 +11,7 @@ use lib.Seq.{get_or_at}
 use borrow.Author.Tests.{ltb-true, ltb-false, lt-ltb}
 use Rattle.trace_text.specs.Digits.{last_digits, hex_digit_ascii, IsDigitCount}
 use Rattle.protocol_types.proofs.Laws.{choice}
-use Rattle.trace_text.specs.Text.{places, decimal, denoted}
+use Rattle.trace_text.specs.Text.{places, number_width, decimal, denoted}
 
 -- ---- how many digits
 
@@ -56,9 +56,17 @@ pub fewest_decimal : (n k : ℕ) → n < 2 ^ 64 → IsDigitCount 10 1 n k → la
 unfolding decimal
 fewest_decimal n k h f = ap (λ (j : ℕ). last_digits 10 j n) (only-fewest n k (places 19 n) f (decimal-fewest n h))
 
+places-most : (k n : ℕ) → places k n ≤ suc k
+places-most zero n = omega arith
+places-most (suc k) n = choice (λ (p : ℕ). p ≤ suc (suc k)) (ltb n 10) (λ _. omega arith) (λ _. omega (arith, places-most k (n / 10)))
+
 length_digits : (k n : ℕ) → length (last_digits 10 k n) ≡ k
 length_digits zero n = refl
 length_digits (suc k) n = length-append (last_digits 10 k (n / 10)) _ ∙ omega (arith, length_digits k (n / 10))
+
+pub decimal-length : (n : ℕ) → length (decimal n) ≤ number_width
+unfolding decimal
+decimal-length n = omega (arith, length_digits (places 19 n) n, places-most 19 n)
 
 -- ---- what they denote
 

@@ -12,7 +12,7 @@ use std::marker::Model;
 use trace_lines::ReportNumbers;
 
 // The most bytes that a report is: 20 digits to a number.
-const TEXT_WIDTH: usize = 192;
+pub const TEXT_WIDTH: usize = 192;
 
 // A text that is written from its start on. Clauses see the bytes written so far.
 #[derive(Drop)]
@@ -114,9 +114,10 @@ fn cycles(account: Account) -> u64
     account.fetch as u64 + account.write_back as u64 + account.update as u64
 }
 
-// The six lines of a report in numbers.
+// The six lines of a report in numbers: at most TEXT_WIDTH bytes.
 pub fn render(numbers: ReportNumbers) -> TextBuffer
-    ensures { result ≡ text numbers }
+    ensures lines { result ≡ text numbers }
+    ensures width { length result ≤ text_width }
 {
     let mut text = TextBuffer::new();
     text.put_account(numbers.account);
