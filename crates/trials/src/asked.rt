@@ -101,12 +101,6 @@ fn fill<T: Element>(cells: &Cells, first: u32, n: u32, to: &mut [T]) {
     }
 }
 
-// A table goes to an array.
-fn fill_table<T: Element>(cells: &Cells, table: u32, to: &mut [T]) {
-    let first = sum(REAL, lent::table_place(table));
-    fill(cells, first, lent::length(cells, table), to);
-}
-
 // A table comes back from its array.
 fn back<T: Element>(cells: &mut Cells, table: u32, from: &[T]) {
     let n = lent::length(cells, table);
@@ -122,9 +116,12 @@ fn lend<T: Element>(room: &mut [T], n: u32) -> &mut [T] {
     &mut room[..n]
 }
 
-// As much of a table is lent as the case wants.
+// A table goes to an array, and as much of it is lent as the case wants.
 fn lend_table<'a, T: Element>(cells: &Cells, table: u32, room: &'a mut [T]) -> &'a mut [T] {
-    lend(room, lent::length(cells, table))
+    let first = sum(REAL, lent::table_place(table));
+    let n = lent::length(cells, table);
+    fill(cells, first, n, room);
+    lend(room, n)
 }
 
 // A list of n numbers is lent.
@@ -133,81 +130,59 @@ fn lend_list<'a>(cells: &Cells, first: u32, n: u32, room: &'a mut Table) -> &'a 
     lend(room, n)
 }
 
-// The tables, copied to arrays.
-#[derive(Drop)]
-struct Tables {
-    blocks: Table,
-    counters: Table,
-    marks: Table,
-    words: Table,
-    memory: Table,
-    masks: Masks,
-    values: Table,
-}
-
-impl Tables {
-    fn of(cells: &Cells) -> Tables {
-        let mut tables = Tables {
-            blocks: [0; ROOM],
-            counters: [0; ROOM],
-            marks: [0; ROOM],
-            words: [0; ROOM],
-            memory: [0; ROOM],
-            masks: [0; MASK_ROOM],
-            values: [0; ROOM],
-        };
-        fill_table(cells, lent::NUMBERS_TABLE, &mut tables.blocks);
-        fill_table(cells, lent::COUNTERS_TABLE, &mut tables.counters);
-        fill_table(cells, lent::MARKS_TABLE, &mut tables.marks);
-        fill_table(cells, lent::WORDS_TABLE, &mut tables.words);
-        fill_table(cells, lent::MEMORY_TABLE, &mut tables.memory);
-        fill_table(cells, lent::MASKS_TABLE, &mut tables.masks);
-        fill_table(cells, lent::VALUES_TABLE, &mut tables.values);
-        tables
-    }
-
-    fn put_back(&self, cells: &mut Cells) {
-        back(cells, lent::NUMBERS_TABLE, &self.blocks);
-        back(cells, lent::COUNTERS_TABLE, &self.counters);
-        back(cells, lent::MARKS_TABLE, &self.marks);
-        back(cells, lent::WORDS_TABLE, &self.words);
-        back(cells, lent::MEMORY_TABLE, &self.memory);
-        back(cells, lent::MASKS_TABLE, &self.masks);
-        back(cells, lent::VALUES_TABLE, &self.values);
-    }
-}
-
 fn start(cells: &mut Cells, setup: Setup) -> Result<(), Refusal> {
-    let mut tables = Tables::of(cells);
+    let mut blocks = [0u32; ROOM];
+    let mut counters = [0u32; ROOM];
+    let mut marks = [0u32; ROOM];
+    let mut words = [0u32; ROOM];
+    let mut memory = [0u32; ROOM];
+    let mut masks = [0u8; MASK_ROOM];
     let started = engine_tables::start(
         setup,
-        lend_table(cells, lent::NUMBERS_TABLE, &mut tables.blocks),
-        lend_table(cells, lent::COUNTERS_TABLE, &mut tables.counters),
-        lend_table(cells, lent::MARKS_TABLE, &mut tables.marks),
-        lend_table(cells, lent::WORDS_TABLE, &mut tables.words),
-        lend_table(cells, lent::MEMORY_TABLE, &mut tables.memory),
-        lend_table(cells, lent::MASKS_TABLE, &mut tables.masks),
+        lend_table(cells, lent::NUMBERS_TABLE, &mut blocks),
+        lend_table(cells, lent::COUNTERS_TABLE, &mut counters),
+        lend_table(cells, lent::MARKS_TABLE, &mut marks),
+        lend_table(cells, lent::WORDS_TABLE, &mut words),
+        lend_table(cells, lent::MEMORY_TABLE, &mut memory),
+        lend_table(cells, lent::MASKS_TABLE, &mut masks),
     );
-    tables.put_back(cells);
+    back(cells, lent::NUMBERS_TABLE, &blocks);
+    back(cells, lent::COUNTERS_TABLE, &counters);
+    back(cells, lent::MARKS_TABLE, &marks);
+    back(cells, lent::WORDS_TABLE, &words);
+    back(cells, lent::MEMORY_TABLE, &memory);
+    back(cells, lent::MASKS_TABLE, &masks);
     started
 }
 
 // A run of the first n numbers of the requests.
 fn run(cells: &mut Cells, setup: Setup, mut account: Account, n: u32) -> Answer {
-    let mut tables = Tables::of(cells);
+    let mut blocks = [0u32; ROOM];
+    let mut counters = [0u32; ROOM];
+    let mut marks = [0u32; ROOM];
+    let mut words = [0u32; ROOM];
+    let mut memory = [0u32; ROOM];
+    let mut masks = [0u8; MASK_ROOM];
+    let mut values = [0u32; ROOM];
     let answer = host_numbers::run(
         setup,
-        lend_table(cells, lent::NUMBERS_TABLE, &mut tables.blocks),
-        lend_table(cells, lent::COUNTERS_TABLE, &mut tables.counters),
-        lend_table(cells, lent::MARKS_TABLE, &mut tables.marks),
-        lend_table(cells, lent::WORDS_TABLE, &mut tables.words),
-        lend_table(cells, lent::MEMORY_TABLE, &mut tables.memory),
-        lend_table(cells, lent::MASKS_TABLE, &mut tables.masks),
+        lend_table(cells, lent::NUMBERS_TABLE, &mut blocks),
+        lend_table(cells, lent::COUNTERS_TABLE, &mut counters),
+        lend_table(cells, lent::MARKS_TABLE, &mut marks),
+        lend_table(cells, lent::WORDS_TABLE, &mut words),
+        lend_table(cells, lent::MEMORY_TABLE, &mut memory),
+        lend_table(cells, lent::MASKS_TABLE, &mut masks),
         &mut account,
         lend_list(cells, REQUESTS, n, &mut [0; ROOM]),
-        lend_table(cells, lent::VALUES_TABLE, &mut tables.values),
+        lend_table(cells, lent::VALUES_TABLE, &mut values),
     );
-    tables.put_back(cells);
+    back(cells, lent::NUMBERS_TABLE, &blocks);
+    back(cells, lent::COUNTERS_TABLE, &counters);
+    back(cells, lent::MARKS_TABLE, &marks);
+    back(cells, lent::WORDS_TABLE, &words);
+    back(cells, lent::MEMORY_TABLE, &memory);
+    back(cells, lent::MASKS_TABLE, &masks);
+    back(cells, lent::VALUES_TABLE, &values);
     Answer {
         refused: answer.refused,
         taken: answer.taken,
@@ -218,16 +193,20 @@ fn run(cells: &mut Cells, setup: Setup, mut account: Account, n: u32) -> Answer 
 
 // The price of the first m numbers of the entries for the first n numbers of the requests.
 fn price(cells: &mut Cells, setup: Setup, m: u32, n: u32) -> Result<u32, PlacedRefusal> {
-    let mut tables = Tables::of(cells);
+    let mut blocks = [0u32; ROOM];
+    let mut held = [0u32; ROOM];
+    let mut marks = [0u32; ROOM];
     let answer = host_numbers::price(
         setup,
-        lend_table(cells, lent::NUMBERS_TABLE, &mut tables.blocks),
-        lend_table(cells, lent::COUNTERS_TABLE, &mut tables.counters),
-        lend_table(cells, lent::MARKS_TABLE, &mut tables.marks),
+        lend_table(cells, lent::NUMBERS_TABLE, &mut blocks),
+        lend_table(cells, lent::COUNTERS_TABLE, &mut held),
+        lend_table(cells, lent::MARKS_TABLE, &mut marks),
         lend_list(cells, ENTRIES, m, &mut [0; ROOM]),
         lend_list(cells, REQUESTS, n, &mut [0; ROOM]),
     );
-    tables.put_back(cells);
+    back(cells, lent::NUMBERS_TABLE, &blocks);
+    back(cells, lent::COUNTERS_TABLE, &held);
+    back(cells, lent::MARKS_TABLE, &marks);
     answer
 }
 
@@ -281,14 +260,16 @@ pub struct Shown {
 }
 
 pub(crate) fn look(cells: &Cells, setup: Setup, i: u32, block: u32) -> Shown {
-    let mut tables = Tables::of(cells);
+    let mut blocks = [0u32; ROOM];
+    let mut counters = [0u32; ROOM];
+    let mut words = [0u32; ROOM];
     let shown = engine_tables::look(
         setup,
         i,
         Block(block),
-        lend_table(cells, lent::NUMBERS_TABLE, &mut tables.blocks),
-        lend_table(cells, lent::COUNTERS_TABLE, &mut tables.counters),
-        lend_table(cells, lent::WORDS_TABLE, &mut tables.words),
+        lend_table(cells, lent::NUMBERS_TABLE, &mut blocks),
+        lend_table(cells, lent::COUNTERS_TABLE, &mut counters),
+        lend_table(cells, lent::WORDS_TABLE, &mut words),
     );
     Shown {
         count: shown.len(),
