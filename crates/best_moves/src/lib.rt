@@ -249,7 +249,7 @@ fn completion_price(u: usize, a: usize, by_broadcast: bool) -> u32
 // ---- the entries of a position by number
 
 // Request n of the list, or 0.
-fn ask_at(asks: &[u32], n: usize) -> usize
+pub fn ask_at(asks: &[u32], n: usize) -> usize
     ensures { result ≡ at asks.now n }
 {
     if n < asks.len() { asks[n] as usize } else { 0 }

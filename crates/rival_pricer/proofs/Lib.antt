@@ -1,2 +1,3 @@
+pub mod Instances
 pub mod Loop
 pub mod Start
