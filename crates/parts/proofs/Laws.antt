@@ -119,7 +119,7 @@ list_all-is : (p : ℕ → Bool) (xs : List ℕ) → list_all p xs ≡ all (leng
 list_all-is p [] = refl
 list_all-is p (x ∷ xs) = ap (λ b. p x && b) (list_all-is p xs) ∙ sym (all-front (λ o. p (at (x ∷ xs) o)) (length xs))
 
-pointwise-is : (p : ℕ → ℕ → Bool) (xs ys : List ℕ) → length ys ≡ length xs → pointwise p xs ys ≡ all (length xs) (λ o. p (at xs o) (at ys o))
+pub pointwise-is : (p : ℕ → ℕ → Bool) (xs ys : List ℕ) → length ys ≡ length xs → pointwise p xs ys ≡ all (length xs) (λ o. p (at xs o) (at ys o))
 pointwise-is p [] [] e = refl
 pointwise-is p [] (y ∷ ys) e = absurd (omega arith)
 pointwise-is p (x ∷ xs) [] e = absurd (omega arith)

@@ -3,6 +3,7 @@
 
 ghost use Rattle.std.specs.Prelude.{◌≡◌, ◌+◌, ◌≤◌, ◌<◌, length, replicate, set, eqb};
 ghost use Rattle.std.specs.List.{list_all};
+ghost use Rattle.std.specs.Cmp.Lexicographic.{pointwise};
 ghost use Rattle.std.proofs.lemmas.List.Edits.{sets};
 ghost use Rattle.protocol_types.specs.Lists.{at, part, zeros, all};
 ghost use Rattle.protocol_types.specs.Board.{word_index};
@@ -93,11 +94,30 @@ pub fn zero_row(setup: Setup, row: usize, words: &[u32]) -> bool
     all_zero(row_of(setup, row, words))
 }
 
+// The longest row that is compared word by word: the library's comparison of slices is a call, which costs more there.
+const FEW: usize = 8;
+
+// Whether the words of x are those of y, which has as many.
+fn same_words(x: &[u32], y: &[u32]) -> bool
+    requires { length x.now ≡ length y.now }
+    ensures { result ≡ pointwise eqb x.now y.now }
+{
+    if x.len() > FEW {
+        return x == y;
+    }
+    for k in 0..x.len() {
+        if x[k] != y[k] {
+            return false;
+        }
+    }
+    true
+}
+
 // Whether the words of row `i` of x are those of row `j` of y.
 #[tactic(auto, using(crate::proofs::Laws::parts_tested), unfolding(protocol_types::specs::Board::word_index))]
 pub fn same_row(setup: Setup, x: &[u32], i: usize, y: &[u32], j: usize) -> bool
     requires { (word_index setup i 0 + setup.words ≤ length x.now) × (word_index setup j 0 + setup.words ≤ length y.now) }
     ensures { result ≡ all setup.words (λ o. eqb (at x.now (word_index setup i o)) (at y.now (word_index setup j o))) }
 {
-    row_of(setup, i, x) == row_of(setup, j, y)
+    same_words(row_of(setup, i, x), row_of(setup, j, y))
 }
